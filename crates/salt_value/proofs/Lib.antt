@@ -1,0 +1,4 @@
+pub mod Places
+pub mod IdKept
+pub mod JidLaws
+pub mod KeyLemmas

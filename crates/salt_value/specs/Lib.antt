@@ -1,0 +1,10 @@
+pub mod Reading
+pub mod Id
+pub mod IdFields
+pub mod IdLaws
+pub mod Word
+pub mod Jid
+pub mod Calendar
+pub mod Told
+pub mod Keys
+pub mod formers
