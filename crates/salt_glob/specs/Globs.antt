@@ -1,0 +1,93 @@
+-- Globs: which texts a pattern stands for.
+use Rattle.std.specs.Prelude.{◌≡◌, ℕ, zero, suc, ◌+◌, ◌≤◌, ◌==◌, slice_index, drop, Bool, true, false, ◌||◌, ◌&&◌, if◌then◌else◌, IsTrue, List, [], ◌∷◌, ◌++◌, Option, None, Some}
+use Rattle.salt_glob.specs.Classes.{Class, class_of, class_size, in_class}
+
+-- what stands at the front of a pattern
+pub data Piece : Type 0 where
+  star : Piece
+  any : Piece
+  set : Class → Piece
+  plain : ℕ → Piece
+
+-- a `[` opens a class where a `]` closes it, and else stands for itself
+abbrev pub opened : Option Class → Piece
+opened None = plain 91
+opened (Some c) = set c
+
+-- the piece that begins with this byte, before the rest of the pattern
+abbrev pub piece : ℕ → List ℕ → Piece
+piece b rest = if b == 42 then star else (if b == 63 then any else (if b == 91 then opened (class_of rest) else plain b))
+
+-- how many bytes the piece has after its first
+abbrev pub more : Piece → ℕ
+more star = 0
+more any = 0
+more (set c) = class_size c
+more (plain b) = 0
+
+-- the pieces of a pattern from left to right, after its first `skipped` bytes
+abbrev pub pieces_after : ℕ → List ℕ → List Piece
+pieces_after skipped [] = []
+pieces_after (suc skipped) (b ∷ rest) = pieces_after skipped rest
+pieces_after zero (b ∷ rest) = piece b rest ∷ pieces_after (more (piece b rest)) rest
+
+abbrev pub pieces : List ℕ → List Piece
+pieces pattern = pieces_after 0 pattern
+
+-- a piece other than `*` takes one byte
+abbrev pub takes : Piece → ℕ → Bool
+takes star b = false
+takes any b = true
+takes (set c) b = in_class b c
+takes (plain x) b = b == x
+
+-- Pieces hold for a text. No piece holds for the empty text alone; `*` leaves any suffix to the others, and each other
+-- piece takes the first byte and leaves the rest.
+abbrev pub Hold : List Piece → List ℕ → Type 0
+Hold [] text = text ≡ []
+Hold (star ∷ ps) text = (before : List ℕ) × (after : List ℕ) × (text ≡ before ++ after) × Hold ps after
+Hold (any ∷ ps) text = (b : ℕ) × (rest : List ℕ) × (text ≡ b ∷ rest) × Hold ps rest
+Hold (set c ∷ ps) text = (b : ℕ) × (rest : List ℕ) × (text ≡ b ∷ rest) × IsTrue (in_class b c) × Hold ps rest
+Hold (plain x ∷ ps) text = (rest : List ℕ) × (text ≡ x ∷ rest) × Hold ps rest
+
+-- the pattern holds for the text
+abbrev pub Glob : List ℕ → List ℕ → Type 0
+Glob pattern text = Hold (pieces pattern) text
+
+-- The same as a function, for definitions that ask it.
+abbrev pub some_suffix : (List ℕ → Bool) → List ℕ → Bool
+some_suffix f [] = f []
+some_suffix f (b ∷ rest) = f (b ∷ rest) || some_suffix f rest
+
+abbrev pub after_first : Piece → (List ℕ → Bool) → List ℕ → Bool
+after_first p f [] = false
+after_first p f (b ∷ rest) = takes p b && f rest
+
+abbrev pub is_star : Piece → Bool
+is_star star = true
+is_star any = false
+is_star (set c) = false
+is_star (plain x) = false
+
+unfoldable pub held : List Piece → List ℕ → Bool
+held [] [] = true
+held [] (b ∷ rest) = false
+held (p ∷ ps) text = if is_star p then some_suffix (held ps) text else after_first p (held ps) text
+
+abbrev pub glob : List ℕ → List ℕ → Bool
+glob pattern text = held (pieces pattern) text
+
+-- the piece at a place of a pattern, and how many bytes it has where it takes a byte
+abbrev pub piece_at : List ℕ → ℕ → Piece
+piece_at pattern at = piece (slice_index pattern at) (drop (at + 1) pattern)
+
+abbrev pub taken_by : Piece → ℕ → Option ℕ
+taken_by p b = if takes p b then Some (more p + 1) else None
+
+-- the pattern from one place on holds for the text from another place on
+abbrev pub HoldAt : List ℕ → List ℕ → ℕ → ℕ → Type 0
+HoldAt pattern text p t = Glob (drop p pattern) (drop t text)
+
+-- or from a later place of the text on
+abbrev pub HoldLater : List ℕ → List ℕ → ℕ → ℕ → Type 0
+HoldLater pattern text p t = (u : ℕ) × (t ≤ u) × HoldAt pattern text p u

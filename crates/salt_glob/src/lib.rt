@@ -1,0 +1,12 @@
+//! Globs: patterns with `*`, `?` and classes, as a shell has them for the names of files, on any bytes
+//! (Salt documentation, Targeting Minions).
+#![tactic(auto)]
+
+mod class;
+mod law;
+mod matching;
+#[cfg(test)]
+mod tests;
+
+pub use law::globs_go_by_the_front;
+pub use matching::glob;

@@ -1,0 +1,145 @@
+//! Whether a pattern holds for a text.
+ghost use Rattle.std.specs.Prelude.{◌≡◌, ◌≤◌, ◌<◌, ◌+◌, ◌==◌, None, Some, IfSome, IfNone, ◌↔◌, ℕ, nat_lt, [], length, drop, slice_index, IsTrue};
+ghost use Rattle.std.specs.List.{list_any, list_all};
+ghost use Rattle.salt_glob.specs.Globs as spec;
+
+use crate::class::{after_last_close, class_at, is_member};
+
+/// How many bytes of the pattern the piece at a place has, if it takes the byte.
+#[inline(always)]
+fn taken(pattern: &[u8], at: usize, last: usize, byte: u8) -> Option<usize>
+    requires at { at < length pattern.now }
+    requires bound { last ≤ length pattern.now }
+    requires closes { (k : ℕ) → list_any (λ b. b == 93) (drop k pattern.now) ≡ nat_lt k last }
+    ensures value { result ≡ spec.taken_by (spec.piece_at pattern.now at) byte }
+    ensures within { IfSome result (λ n. at + n ≤ length pattern.now) }
+{
+    let front = pattern[at];
+    if front == b'*' {
+        return None;
+    }
+    if front == b'?' {
+        return Some(1);
+    }
+    if front == b'[' {
+        if let Some(class) = class_at(pattern, at + 1, last) {
+            let members = &pattern[class.first..class.end];
+            return if is_member(members, byte) != class.negated {
+                Some(class.end + 1 - at)
+            } else {
+                None
+            };
+        }
+    }
+    if front == byte { Some(1) } else { None }
+}
+
+/// The same, and nothing at the end of the pattern.
+#[inline(always)]
+fn taken_or_end(pattern: &[u8], at: usize, last: usize, byte: u8) -> Option<usize>
+    requires bound { last ≤ length pattern.now }
+    requires closes { (k : ℕ) → list_any (λ b. b == 93) (drop k pattern.now) ≡ nat_lt k last }
+    ensures some { IfSome result (λ n. (at < length pattern.now) × (spec.taken_by (spec.piece_at pattern.now at) byte ≡ Some n) × (at + n ≤ length pattern.now)) }
+    ensures none { IfNone result (at < length pattern.now → spec.taken_by (spec.piece_at pattern.now at) byte ≡ None) }
+{
+    if at < pattern.len() {
+        taken(pattern, at, last, byte)
+    } else {
+        None
+    }
+}
+
+fn only_stars(pattern: &[u8]) -> bool
+    ensures { result ≡ list_all (λ b. b == 42) pattern.now }
+{
+    pattern.iter().all(|b| *b == b'*')
+}
+
+/// Whether a pattern holds for the empty text: each of its bytes is a `*`.
+fn are_stars(pattern: &[u8]) -> bool
+    ensures { IsTrue result ↔ spec.Glob pattern.now [] }
+{
+    only_stars(pattern)
+}
+
+/// Whether what stands after a `*` holds for the text from a place on, or from a later one on.
+/// Only the last `*` is gone back to: what stands between two of them may be held as early as it can be.
+/// So it takes at most as many steps as the pattern has bytes for each byte of the text.
+fn after_star(pattern: &[u8], text: &[u8], last: usize, after: usize, from: usize) -> bool
+    requires after { after ≤ length pattern.now }
+    requires from { from ≤ length text.now }
+    requires bound { last ≤ length pattern.now }
+    requires closes { (k : ℕ) → list_any (λ b. b == 93) (drop k pattern.now) ≡ nat_lt k last }
+    ensures { IsTrue result ↔ spec.HoldLater pattern.now text.now after from }
+{
+    if after == pattern.len() {
+        return true;
+    }
+    let (mut after_star, mut from_star) = (after, from);
+    let (mut p, mut t) = (after, from);
+    while t < text.len() {
+        if is_star(pattern, p) {
+            p += 1;
+            after_star = p;
+            from_star = t;
+            if p == pattern.len() {
+                return true;
+            }
+        } else {
+            match taken_or_end(pattern, p, last, text[t]) {
+                Some(n) => {
+                    p += n;
+                    t += 1;
+                }
+                None => {
+                    from_star += 1;
+                    p = after_star;
+                    t = from_star;
+                }
+            }
+        }
+    }
+    are_stars(pattern.split_at(p).1)
+}
+
+#[inline(always)]
+fn is_star(pattern: &[u8], at: usize) -> bool
+    ensures { IsTrue result ↔ ((at < length pattern.now) × (slice_index pattern.now at ≡ 42)) }
+{
+    at < pattern.len() && pattern[at] == b'*'
+}
+
+// Whether the pattern holds for the whole text: up to the first `*` without a way back.
+fn holds(pattern: &[u8], text: &[u8]) -> bool
+    ensures { IsTrue result ↔ spec.Glob pattern.now text.now }
+{
+    let last = after_last_close(pattern);
+    let (mut p, mut t) = (0, 0);
+    while p < pattern.len() {
+        if is_star(pattern, p) {
+            return after_star(pattern, text, last, p + 1, t);
+        }
+        if t == text.len() {
+            return false;
+        }
+        match taken(pattern, p, last, text[t]) {
+            Some(n) => {
+                p += n;
+                t += 1;
+            }
+            None => return false,
+        }
+    }
+    t == text.len()
+}
+
+/// Whether the pattern holds for the whole text: `*` stands for any bytes, `?` for one byte, `[..]` for one byte of a set,
+/// `[!..]` for one byte outside it, and any other byte for itself. A `]` that is first in a class is a member, `x-y` is a
+/// range, and a `[` that no `]` closes stands for itself (Salt documentation, Targeting Minions; there is no escape).
+/// It takes no memory, and at most as many steps as the pattern's length times the text's.
+pub fn glob(pattern: &[u8], text: &[u8]) -> bool
+    ensures relation { IsTrue result ↔ spec.Glob pattern.now text.now }
+    ensures value { result ≡ spec.glob pattern.now text.now }
+{
+    holds(pattern, text)
+}
