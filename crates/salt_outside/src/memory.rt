@@ -1,0 +1,127 @@
+ghost use Rattle.std.specs.Prelude.{◌≡◌, ◌++◌, ◌<◌, ◌≤◌, ℕ, List, [], Option, Some, drop, length, take, min, IfOk, OnOk, OnErr, IsErrOf, IsOkUnless};
+ghost use Rattle.salt_outside.specs.Streams.{appended, preceded, IsPart, IsAtEnd};
+
+use crate::calls::Calls;
+use crate::{Outside, Sink, Source};
+use std::alloc::Global;
+
+/// A source over bytes in memory.
+#[derive(Drop)]
+pub struct MemSource {
+    bytes: Vec<u8>,
+    at: usize,
+    calls: Calls,
+    ghost within: { at ≤ length bytes.items },
+}
+
+impl MemSource {
+    ghost use Rattle.salt_outside.specs.Memory.{source_left, source_fails, source_calls, source_faults};
+
+    /// A source that has these bytes left. The calls of `read` whose numbers are listed fail, counted from 1.
+    pub fn new(bytes: Vec<u8>, fails: Vec<u64>) -> MemSource
+        ensures left { source_left result ≡ bytes.items }
+        ensures fails { source_fails result ≡ fails.items }
+        ensures calls { source_calls result ≡ 0 }
+        ensures faults { source_faults result ≡ 0 }
+    {
+        MemSource {
+            bytes,
+            at: 0,
+            calls: Calls::new(fails),
+        }
+    }
+}
+
+impl Source for MemSource {
+    ghost use Rattle.salt_outside.specs.Memory.{source_left, source_fails, source_calls, source_faults, FailsWhereListed};
+    ghost use Rattle.salt_outside.specs.Causes.{raised, HasCause};
+
+    ghost left = { λ s. Some (drop s.at s.bytes.items) };
+
+    ghost faults = { λ s. s.calls.faults };
+
+    /// Reads as many bytes as there is room for, or as are left. It finds its memory always.
+    #[tactic(auto, using(crate::proofs::Faults::failed_cause, crate::proofs::Reading::none_left))]
+    fn read(&mut self, into: &mut [u8]) -> Result<usize, Outside>
+        requires { 0 < length into.old }
+        ensures within { IfOk result (λ count. count ≤ length into.new) }
+        ensures bytes { IfOk result (λ count. Some (source_left self.old) ≡ preceded (take count into.new) (Some (source_left self.new))) }
+        ensures end { IfOk result (λ count. count ≡ 0 → IsAtEnd (Some (source_left self.old))) }
+        ensures err { OnErr result (Some (source_left self.new) ≡ Some (source_left self.old)) }
+        ensures cause { HasCause (source_faults self.old) (source_faults self.new) result }
+        ensures most { IfOk result (λ count. count ≡ min (length into.old) (length (source_left self.old))) }
+        ensures listed { FailsWhereListed (source_fails self.old) (source_calls self.old) result }
+        ensures memory { IsOkUnless result Outside.Failed }
+        ensures calls { source_calls self.new ≡ raised (source_calls self.old) }
+        ensures fails { source_fails self.new ≡ source_fails self.old }
+    {
+        if self.calls.next_fails() {
+            return Err(Outside::Failed);
+        }
+        let rest = &self.bytes[self.at..];
+        let count = into.len().min(rest.len());
+        into[..count].copy_from_slice(&rest[..count]);
+        self.at += count;
+        Ok(count)
+    }
+}
+
+/// A sink that keeps its bytes in memory.
+#[derive(Drop)]
+pub struct MemSink {
+    bytes: Vec<u8>,
+    calls: Calls,
+}
+
+impl MemSink {
+    ghost use Rattle.salt_outside.specs.Memory.{sink_held, sink_fails, sink_calls, sink_faults};
+
+    /// A sink that holds nothing. The calls of `write` whose numbers are listed fail, counted from 1.
+    pub fn new(alloc: Global, fails: Vec<u64>) -> MemSink
+        ensures held { sink_held result ≡ [] }
+        ensures fails { sink_fails result ≡ fails.items }
+        ensures calls { sink_calls result ≡ 0 }
+        ensures faults { sink_faults result ≡ 0 }
+    {
+        MemSink {
+            bytes: Vec::new(alloc),
+            calls: Calls::new(fails),
+        }
+    }
+
+    /// The bytes that were written.
+    pub fn bytes(&self) -> &[u8]
+        ensures { result.now ≡ sink_held self.now }
+    {
+        &self.bytes
+    }
+}
+
+impl Sink for MemSink {
+    ghost use Rattle.salt_outside.specs.Memory.{sink_held, sink_fails, sink_calls, sink_faults, FailsWhereListed};
+    ghost use Rattle.salt_outside.specs.Causes.{raised, HasCause};
+
+    ghost held = { λ s. Some s.bytes.items };
+
+    ghost faults = { λ s. s.calls.faults };
+
+    /// Writes all the bytes. After an error none was written.
+    #[tactic(auto, using(crate::proofs::Parts::part_whole, crate::proofs::Parts::part_none, crate::proofs::Faults::failed_cause))]
+    fn write(&mut self, bytes: &[u8]) -> Result<(), Outside>
+        ensures ok { OnOk result (Some (sink_held self.new) ≡ appended (Some (sink_held self.old)) bytes.now) }
+        ensures part { IsPart (Some (sink_held self.old)) (Some (sink_held self.new)) bytes.now }
+        ensures none { OnErr result (sink_held self.new ≡ sink_held self.old) }
+        ensures cause { HasCause (sink_faults self.old) (sink_faults self.new) result }
+        ensures listed { FailsWhereListed (sink_fails self.old) (sink_calls self.old) result }
+        ensures calls { sink_calls self.new ≡ raised (sink_calls self.old) }
+        ensures fails { sink_fails self.new ≡ sink_fails self.old }
+    {
+        if self.calls.next_fails() {
+            return Err(Outside::Failed);
+        }
+        if self.bytes.extend_from_slice(bytes).is_err() {
+            return Err(Outside::NoMemory);
+        }
+        Ok(())
+    }
+}
