@@ -1,0 +1,5 @@
+pub mod Store
+pub mod Splits
+pub mod Making
+pub mod Unique
+pub mod Exact

@@ -1,0 +1,5 @@
+pub mod Journal
+pub mod Payloads
+pub mod Append
+pub mod Read
+pub mod Fresh

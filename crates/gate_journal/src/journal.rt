@@ -1,0 +1,219 @@
+// A journal: a header, and records behind gates. A record counts where its gate is open.
+ghost use Rattle.std.specs.Prelude.{◌≡◌, ◌⊎◌, ◌<◌, ◌≤◌, ◌+◌, [], ℕ, true, false, length, IfOk, OnOk, IsErrOf};
+ghost use Rattle.salt_disk.specs.Disk.{part_of, IsSettled, Stays};
+ghost use Rattle.salt_disk.specs.Crash.{MayLeave, LeavesOnly, OthersStay};
+ghost use Rattle.salt_disk.specs.Causes.{Rose};
+ghost use Rattle.salt_disk.specs.Fuse.{Passes, burnt};
+ghost use Rattle.gate_journal.specs.Journal.{IsJournal, Rests, Holds, HoldsOldOrNew, StoppedAppend};
+ghost use Rattle.gate_journal.specs.Append.{appended, after_append, LeftAfter};
+ghost use Rattle.gate_journal.specs.Read.{IsNoJournal, IsDamagedAt, IsAccepted, IsRefused};
+ghost use Rattle.gate_journal.specs.Fresh.{HoldsNothing};
+
+use crate::read::{ReadFault, read_journal, read_synced};
+use crate::write::{body_of, store, write_header};
+use crate::{AppendFault, CreateFault, LoadFault, Payloads};
+use salt_disk::{Disk, DiskFault, Part};
+use std::alloc::Global;
+use std::marker::Model;
+
+/// A loaded journal: where it stands, its limit and its length in bytes, and whether it is down.
+#[derive(Debug, Drop)]
+pub struct Journal {
+    part: Part,
+    limit: u64,
+    length: u64,
+    down: bool,
+}
+
+impl Model for Journal {
+    ghost use Rattle.std.specs.Prelude.{◌≤◌};
+    ghost use Rattle.gate_journal.specs.Journal.{JournalState};
+
+    ghost Value = { JournalState };
+
+    ghost view = { λ j. record { part = j.part; limit = j.limit; length = j.length; is_down = j.down } };
+
+    ghost invariant = { λ j. (j.limit ≤ 1073741824) × (j.length ≤ j.limit) × (17 ≤ j.length) };
+}
+
+impl Journal {
+    /// Reads the journal on a part: its payloads, and the journal itself, which is up. It begins with a sync, and
+    /// changes nothing else. It takes memory for the part's bytes and for the payloads.
+    pub fn load<D: Disk>(
+        alloc: Global,
+        disk: &mut D,
+        part: Part,
+    ) -> Result<(Journal, Payloads), LoadFault>
+        ensures loaded { D.is_told → IfOk result (λ r. Holds r.0 r.1.items (D.state disk.new)) }
+        ensures journal { IfOk result (λ r. (r.0.part ≡ part) × (r.0.is_down ≡ false)) }
+        ensures places { IfOk result (λ r. r.1.first ≡ 16) }
+
+        // The bytes stay. After every answer but `Disk` nothing is pending on the part.
+        ensures bytes { D.is_told → (part_of (D.state disk.new) part).bytes ≡ (part_of (D.state disk.old) part).bytes }
+        ensures settled { D.is_told → (IsErrOf result LoadFault.Disk → ⊥) → IsSettled (part_of (D.state disk.new) part) }
+        ensures others { D.is_told → OthersStay part (D.state disk.old) (D.state disk.new) }
+        ensures any_moment { D.is_told → LeavesOnly D.past D.state disk.old disk.new (MayLeave (D.state disk.old)) }
+        ensures passed { D.is_told → OnOk result (Passes 1 (D.fuse disk.old) × (D.fuse disk.new ≡ burnt 1 (D.fuse disk.old))) }
+        ensures not_passed { D.is_told → IsErrOf result LoadFault.Disk → Passes 1 (D.fuse disk.old) → ⊥ }
+
+        // The causes.
+        ensures not_a_journal { D.is_told → IsErrOf result LoadFault.NotAJournal → IsNoJournal (part_of (D.state disk.old) part).bytes }
+        ensures damaged { D.is_told → (p : _) (at : ℕ) → IsErrOf result (LoadFault.Damaged p at) → (p ≡ part) × IsDamagedAt at (part_of (D.state disk.old) part).bytes }
+        // Each of the two comes exactly there, and a journal is always found.
+        ensures accepts { D.is_told → (limit : ℕ) (payloads : _) → IsJournal limit payloads (part_of (D.state disk.old) part).bytes
+            → IsAccepted result × IfOk result (λ r. (r.0.limit ≡ limit) × (r.1.items ≡ payloads)) }
+        ensures refuses { D.is_told → IsNoJournal (part_of (D.state disk.old) part).bytes → IsRefused LoadFault.NotAJournal result }
+        ensures refuses_damaged { D.is_told → (at : ℕ) → IsDamagedAt at (part_of (D.state disk.old) part).bytes → IsRefused (LoadFault.Damaged part at) result }
+        ensures disk { IsErrOf result LoadFault.Disk → Rose (D.faults disk.old) (D.faults disk.new) }
+        ensures counted { (IsErrOf result LoadFault.Disk → ⊥) → D.faults disk.new ≡ D.faults disk.old }
+        ensures later { D.faults disk.old ≤ D.faults disk.new }
+    {
+        let bytes = match read_synced(alloc, disk, part) {
+            Ok(bytes) => bytes,
+            Err(DiskFault::NoMemory) => return Err(LoadFault::NoMemory),
+            Err(DiskFault::Failed) => return Err(LoadFault::Disk),
+        };
+        match read_journal(alloc, &bytes) {
+            Ok((limit, payloads, length)) => Ok((
+                Journal {
+                    part,
+                    limit,
+                    length,
+                    down: false,
+                },
+                payloads,
+            )),
+            Err(ReadFault::NoMemory) => Err(LoadFault::NoMemory),
+            Err(ReadFault::NotAJournal) => Err(LoadFault::NotAJournal),
+            Err(ReadFault::Damaged(at)) => Err(LoadFault::Damaged { part, at }),
+        }
+    }
+
+    /// Makes an empty journal of this limit, from 64 to 1,073,741,824 bytes, on a part that has at most 17
+    /// bytes: it writes the header with 0 in place of its first byte and a closed gate, syncs, writes that
+    /// byte, syncs. A part of at most 17 bytes holds no payload, so a create that was stopped can be made again.
+    pub fn create<D: Disk>(disk: &mut D, part: Part, limit: u64) -> Result<(), CreateFault>
+        requires least { 64 ≤ limit }
+        requires greatest { limit ≤ 1073741824 }
+        requires settled { D.is_told → IsSettled (part_of (D.state disk.old) part) }
+        ensures made { D.is_told → OnOk result (Rests limit 17 [] (part_of (D.state disk.new) part)) }
+        ensures others { D.is_told → OthersStay part (D.state disk.old) (D.state disk.new) }
+
+        // A crash at any moment leaves no journal that loads, or an empty one, or where the part is not empty what it could leave before.
+        ensures any_moment { D.is_told → length (part_of (D.state disk.old) part).bytes ≤ 17 → LeavesOnly D.past D.state disk.old disk.new (HoldsNothing part (D.state disk.old)) }
+        ensures full_moment { D.is_told → 17 < length (part_of (D.state disk.old) part).bytes → LeavesOnly D.past D.state disk.old disk.new (MayLeave (D.state disk.old)) }
+
+        // It makes four changing calls.
+        ensures passed { D.is_told → OnOk result (Passes 4 (D.fuse disk.old) × (D.fuse disk.new ≡ burnt 4 (D.fuse disk.old))) }
+        ensures not_passed { D.is_told → IsErrOf result CreateFault.Disk → Passes 4 (D.fuse disk.old) → ⊥ }
+
+        // The causes.
+        ensures not_empty { D.is_told → (n : ℕ) → IsErrOf result (CreateFault.NotEmpty n) → (17 < n) × (n ≡ length (part_of (D.state disk.old) part).bytes) }
+        ensures full { D.is_told → 17 < length (part_of (D.state disk.old) part).bytes
+            → IsErrOf result (CreateFault.NotEmpty (length (part_of (D.state disk.old) part).bytes)) ⊎ IsErrOf result CreateFault.Disk }
+        ensures untouched { D.is_told → 17 < length (part_of (D.state disk.old) part).bytes → Stays (D.state disk.old) (D.state disk.new) (D.past disk.old) (D.past disk.new) }
+        ensures disk { IsErrOf result CreateFault.Disk → Rose (D.faults disk.old) (D.faults disk.new) }
+        ensures counted { (IsErrOf result CreateFault.Disk → ⊥) → D.faults disk.new ≡ D.faults disk.old }
+        ensures later { D.faults disk.old ≤ D.faults disk.new }
+    {
+        let len = match disk.len(part) {
+            Ok(len) => len,
+            Err(_) => return Err(CreateFault::Disk),
+        };
+        if len > 17 {
+            return Err(CreateFault::NotEmpty { length: len });
+        }
+        match write_header(disk, part, limit) {
+            Ok(()) => Ok(()),
+            Err(DiskFault::NoMemory) => Err(CreateFault::NoMemory),
+            Err(DiskFault::Failed) => Err(CreateFault::Disk),
+        }
+    }
+
+    /// Adds a payload at the end: it writes the length, the payload and a closed gate behind the closed gate,
+    /// syncs, opens the gate, syncs. At Ok each crash leaves a part that has it. After `Disk` the journal is
+    /// down until it is loaded again; every other refusal leaves it as it was.
+    ///
+    /// The disk is to be as the last call of this journal left it.
+    pub fn append<D: Disk>(
+        &mut self,
+        alloc: Global,
+        disk: &mut D,
+        payload: &[u8],
+    ) -> Result<(), AppendFault>
+        requires { D.is_told → self.old.is_down ≡ false → (payloads : _) × Holds self.old payloads (D.state disk.old) }
+
+        // The new payload stands at the end after Ok, and the old ones stand after every other answer but `Disk`.
+        ensures held { D.is_told → (IsErrOf result AppendFault.Disk → ⊥) → (payloads : _) → Holds self.old payloads (D.state disk.old)
+            → Holds self.new (appended result payloads payload.now) (D.state disk.new) }
+        ensures others { D.is_told → OthersStay self.old.part (D.state disk.old) (D.state disk.new) }
+
+        // A crash at any moment of the call leaves the payloads from before it, with the new one or without.
+        ensures any_moment { D.is_told → self.old.is_down ≡ false → (payloads : _) → Holds self.old payloads (D.state disk.old)
+            → LeavesOnly D.past D.state disk.old disk.new (HoldsOldOrNew self.old.part self.old.limit payloads payload.now (D.state disk.old)) }
+        // Once it has answered, the answer says which.
+        ensures left { D.is_told → self.old.is_down ≡ false → (payloads : _) → Holds self.old payloads (D.state disk.old)
+            → (image : _) → MayLeave (D.state disk.new) image → LeftAfter result self.old.limit payloads payload.now (image self.old.part) }
+        // Where the journal is down, a crash leaves what it could leave before.
+        ensures down_moment { D.is_told → self.old.is_down ≡ true → LeavesOnly D.past D.state disk.old disk.new (MayLeave (D.state disk.old)) }
+
+        // It makes four changing calls. A disk that tells which calls fail tells what an append that failed has left.
+        ensures passed { D.is_told → OnOk result (Passes 4 (D.fuse disk.old) × (D.fuse disk.new ≡ burnt 4 (D.fuse disk.old))) }
+        ensures not_passed { D.is_told → IsErrOf result AppendFault.Disk → Passes 4 (D.fuse disk.old) → ⊥ }
+        ensures stopped { D.is_told → IsErrOf result AppendFault.Disk → (payloads : _) → Holds self.old payloads (D.state disk.old)
+            → StoppedAppend self.old.part self.old.limit self.old.length payloads payload.now (D.fuse disk.old) (D.state disk.new) }
+
+        // The journal's own state, by the answer.
+        ensures journal { self.new ≡ after_append self.old (length payload.now) result }
+
+        // The causes, in their order.
+        ensures down { IsErrOf result AppendFault.Down → (self.old.is_down ≡ true) × (disk.new ≡ disk.old) }
+        ensures is_down { self.old.is_down ≡ true → IsErrOf result AppendFault.Down }
+        ensures full { (n limit : ℕ) → IsErrOf result (AppendFault.Full n limit)
+            → (n ≡ self.old.length + 5 + length payload.now) × (limit ≡ self.old.limit) × (limit < n) × (disk.new ≡ disk.old) }
+        ensures no_room { self.old.is_down ≡ false → self.old.limit < self.old.length + 5 + length payload.now
+            → IsErrOf result (AppendFault.Full (self.old.length + 5 + length payload.now) self.old.limit) }
+        ensures disk { IsErrOf result AppendFault.Disk → Rose (D.faults disk.old) (D.faults disk.new) }
+        ensures counted { (IsErrOf result AppendFault.Disk → ⊥) → D.faults disk.new ≡ D.faults disk.old }
+        ensures later { D.faults disk.old ≤ D.faults disk.new }
+    {
+        if self.down {
+            return Err(AppendFault::Down);
+        }
+        let length = self.length + 5 + payload.len() as u64;
+        if length > self.limit {
+            return Err(AppendFault::Full {
+                length,
+                limit: self.limit,
+            });
+        }
+        let Ok(body) = body_of(alloc, payload) else {
+            return Err(AppendFault::NoMemory);
+        };
+        match store(disk, self.part, self.length, &body) {
+            Ok(()) => {
+                self.length = length;
+                Ok(())
+            }
+            Err(DiskFault::NoMemory) => Err(AppendFault::NoMemory),
+            Err(DiskFault::Failed) => {
+                self.down = true;
+                Err(AppendFault::Disk)
+            }
+        }
+    }
+
+    /// False after a load, and true from an answer `Disk` of `append` on.
+    pub fn is_down(&self) -> bool
+        ensures { result ≡ self.now.is_down }
+    {
+        self.down
+    }
+
+    /// The number of bytes of the header, the records and the closed gate.
+    pub fn length(&self) -> u64
+        ensures { result ≡ self.now.length }
+    {
+        self.length
+    }
+}

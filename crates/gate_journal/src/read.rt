@@ -1,0 +1,117 @@
+// Reads the bytes of a part, in one pass.
+ghost use Rattle.std.specs.Prelude.{◌≡◌, ◌≢◌, ◌⊎◌, ◌<◌, ◌≤◌, ◌+◌, ◌-◌, ◌^◌, [], ◌∷◌, ◌++◌, List, ℕ, length, take, drop, MatchOption, IfOk, OnOk, IsErrOf};
+ghost use Rattle.gate_journal.specs.declared.read.ReadFault.TheVariants.{NoMemory};
+ghost use Rattle.salt_disk.specs.Disk.{part_of, IsSettled, Stays};
+ghost use Rattle.salt_disk.specs.Crash.{LeavesOnly, MayLeave, OthersStay};
+ghost use Rattle.salt_disk.specs.Causes.{HasCause};
+ghost use Rattle.salt_disk.specs.Fuse.{Burns, Lasts};
+ghost use Rattle.byteorder.specs.Endian.{big_bytes};
+ghost use Rattle.gate_journal.specs.Journal.{IsJournal, records, header, journal_length};
+ghost use Rattle.gate_journal.specs.Read.{IsNoJournal, IsBroken, IsDamagedAt};
+
+use crate::{Payload, Payloads};
+use salt_disk::{Disk, DiskFault, Part};
+use std::alloc::{AllocError, Global};
+
+#[derive(Clone, Copy, Debug, PartialEq, Eq)]
+pub enum ReadFault {
+    NoMemory,
+    NotAJournal,
+    Damaged(u64),
+}
+
+impl From<AllocError> for ReadFault {
+    ghost from_gives = { λ _ e. e ≡ NoMemory };
+
+    fn from(_: AllocError) -> Self {
+        ReadFault::NoMemory
+    }
+}
+
+// The limit in the header, where there is one and a gate.
+fn read_header(bytes: &[u8]) -> Option<u64>
+    ensures { MatchOption result (IsNoJournal bytes.now) (λ limit.
+        (bytes.now ≡ header limit ++ drop 16 bytes.now) × (17 ≤ length bytes.now) × (64 ≤ limit) × (limit ≤ 1073741824)) }
+{
+    if bytes.len() < 17 {
+        return None;
+    }
+    let Some((name, rest)) = bytes.split_first_chunk::<8>() else {
+        return None;
+    };
+    let Some((limit, _)) = rest.split_first_chunk::<8>() else {
+        return None;
+    };
+    if name.as_slice() != b"SALTJNL1".as_slice() {
+        return None;
+    }
+    let limit = u64::from_be_bytes(*limit);
+    if limit < 64 || limit > 1073741824 {
+        return None;
+    }
+    Some(limit)
+}
+
+// The payload behind an open gate, and what stands from the next gate on.
+fn read_record(rest: &[u8], room: u64) -> Option<(&[u8], &[u8])>
+    ensures { MatchOption result (IsBroken room rest.now) (λ r.
+        (rest.now ≡ (big_bytes 4 (length r.0.now) ++ r.0.now) ++ r.1.now) × (1 ≤ length r.1.now) × (6 + length r.0.now ≤ room)) }
+{
+    let (length, rest) = rest.split_first_chunk::<4>()?;
+    let length = u32::from_be_bytes(*length) as usize;
+    if rest.len() <= length || room < 6 + length as u64 {
+        return None;
+    }
+    Some((&rest[..length], &rest[length..]))
+}
+
+// The limit in the header, the payloads behind it, and the length of the journal.
+pub fn read_journal(alloc: Global, bytes: &[u8]) -> Result<(u64, Payloads, u64), ReadFault>
+    ensures ok { IfOk result (λ r. IsJournal r.0 r.1.items bytes.now × (r.2 ≡ journal_length r.1.items) × (r.1.first ≡ 16)) }
+    ensures not_a_journal { IsErrOf result ReadFault.NotAJournal → IsNoJournal bytes.now }
+    ensures damaged { (at : ℕ) → IsErrOf result (ReadFault.Damaged at) → IsDamagedAt at bytes.now }
+{
+    let Some(limit) = read_header(bytes) else {
+        return Err(ReadFault::NotAJournal);
+    };
+    let mut payloads = Payloads::new(alloc, 16);
+    let mut at: u64 = 16;
+    let mut rest = &bytes[16..];
+    while rest[0] == 1 {
+        let Some((payload, after)) = read_record(&rest[1..], limit - at) else {
+            return Err(ReadFault::Damaged(at));
+        };
+        payloads.add(at, Payload::new(Vec::from_slice(alloc, payload)?))?;
+        at += 5 + payload.len() as u64;
+        rest = after;
+    }
+    Ok((limit, payloads, at + 1))
+}
+
+// Syncs a part, and reads it.
+pub fn read_synced<D: Disk>(alloc: Global, disk: &mut D, part: Part) -> Result<Vec<u8>, DiskFault>
+    ensures bytes { D.is_told → IfOk result (λ bytes. bytes.items ≡ (part_of (D.state disk.old) part).bytes) }
+    ensures synced { D.is_told → (IsErrOf result DiskFault.Failed → ⊥) → IsSettled (part_of (D.state disk.new) part) }
+    ensures same { D.is_told → (part_of (D.state disk.new) part).bytes ≡ (part_of (D.state disk.old) part).bytes }
+    ensures others { D.is_told → OthersStay part (D.state disk.old) (D.state disk.new) }
+    ensures any_moment { D.is_told → LeavesOnly D.past D.state disk.old disk.new (MayLeave (D.state disk.old)) }
+    ensures fuse { D.is_told → Burns 1 (D.fuse disk.old) (D.fuse disk.new) result }
+    ensures cause { HasCause (D.faults disk.old) (D.faults disk.new) result }
+{
+    disk.sync(part)?;
+    read_part(alloc, disk, part)
+}
+
+// All the bytes of a part.
+fn read_part<D: Disk>(alloc: Global, disk: &mut D, part: Part) -> Result<Vec<u8>, DiskFault>
+    ensures bytes { D.is_told → IfOk result (λ bytes. bytes.items ≡ (part_of (D.state disk.old) part).bytes) }
+    ensures same { D.is_told → Stays (D.state disk.old) (D.state disk.new) (D.past disk.old) (D.past disk.new) }
+    ensures fuse { D.is_told → Lasts (D.fuse disk.old) (D.fuse disk.new) result }
+    ensures cause { HasCause (D.faults disk.old) (D.faults disk.new) result }
+{
+    let len = disk.len(part)?;
+    let mut bytes = vec![in alloc; 0; len as usize]?;
+    let count = disk.read(part, 0, &mut bytes)?;
+    bytes.truncate(count);
+    Ok(bytes)
+}

@@ -1,0 +1,5 @@
+pub mod Moments
+pub mod Torn
+pub mod Record
+pub mod Blots
+pub mod Images

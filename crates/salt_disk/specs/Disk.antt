@@ -1,0 +1,72 @@
+-- What a disk tells of its three parts, and what its calls do to them.
+use Rattle.std.specs.Prelude.{◌≡◌, ◌≢◌, ◌⊎◌, ◌<◌, ◌≤◌, ◌+◌, ℕ, max, List, [], ◌∷◌, ◌++◌, length, take, drop, slice_index}
+use Rattle.salt_disk.specs.declared.disk.Part.{Part}
+use Rattle.salt_disk.specs.declared.disk.Part.TheVariants.{Root, Even, Odd}
+use Rattle.salt_disk.specs.declared.disk.Range.{Range}
+
+-- One part: what a read gives, the ranges written since the last sync, and the least and greatest length since then.
+pub record PartState : Type 0 where
+  pub bytes : List ℕ
+  pub unsure : List Range
+  pub least : ℕ
+  pub greatest : ℕ
+
+-- A disk: one device with three files.
+pub record DiskState : Type 0 where
+  pub root : PartState
+  pub even : PartState
+  pub odd : PartState
+
+-- the state of one part
+abbrev pub part_of : DiskState → Part → PartState
+part_of disk Root = disk.root
+part_of disk Even = disk.even
+part_of disk Odd = disk.odd
+
+-- a part with these bytes, and nothing pending
+abbrev pub settled : List ℕ → PartState
+settled bytes = record { bytes = bytes; unsure = []; least = length bytes; greatest = length bytes }
+
+-- nothing is pending on the part: a crash leaves what a read gives
+abbrev pub IsSettled : PartState → Type 0
+IsSettled part = part ≡ settled part.bytes
+
+-- these bytes at this place, in the place of what is there
+abbrev pub put : ℕ → List ℕ → List ℕ → List ℕ
+put at bytes old = take at old ++ bytes ++ drop (at + length bytes) old
+
+-- the range that a write of these bytes at this place goes over: none where there are no bytes
+abbrev pub ranges_of : ℕ → List ℕ → List Range
+ranges_of at [] = []
+ranges_of at (byte ∷ bytes) = record { start = at; end = at + length (byte ∷ bytes) } ∷ []
+
+-- a write, whether it went well or not
+pub record IsWritten (at : ℕ) (bytes : List ℕ) (old new : PartState) : Type 0 where
+  pub unsure : new.unsure ≡ old.unsure ++ ranges_of at bytes
+  pub least : new.least ≡ old.least
+  pub greatest : new.greatest ≡ max old.greatest (at + length bytes)
+  pub elsewhere : (place : ℕ) → (place < at) ⊎ (at + length bytes ≤ place) → slice_index new.bytes place ≡ slice_index old.bytes place
+
+-- a cut to nothing, whether it went well or not
+pub record IsCut (old new : PartState) : Type 0 where
+  pub unsure : new.unsure ≡ old.unsure
+  pub least : new.least ≡ 0
+  pub greatest : new.greatest ≡ old.greatest
+
+-- one part goes on by this step, and the others stay
+pub record Changes (part : Part) (step : PartState → PartState → Type 0) (old new : DiskState) : Type 0 where
+  pub here : step (part_of old part) (part_of new part)
+  pub others : (other : Part) → other ≢ part → part_of new other ≡ part_of old other
+
+-- the disk stays as it was, and its time stands still
+pub record Stays (old new : DiskState) (past since : List DiskState) : Type 0 where
+  pub state : new ≡ old
+  pub time : since ≡ past
+
+-- what a read of so many bytes at this place gives
+abbrev pub read_from : List ℕ → ℕ → ℕ → List ℕ
+read_from bytes at count = take count (drop at bytes)
+
+-- what a read gives has a length that a crash may leave
+abbrev pub IsHonest : DiskState → Type 0
+IsHonest disk = (part : Part) → ((part_of disk part).least ≤ length (part_of disk part).bytes) × (length (part_of disk part).bytes ≤ (part_of disk part).greatest)

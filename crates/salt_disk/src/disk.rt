@@ -1,0 +1,132 @@
+// A disk of three files: the trait, its parts and its faults.
+ghost use Rattle.std.specs.Prelude.{◌≡◌, ◌⊎◌, ◌≤◌, ◌-◌, ◌+◌, List, ℕ, [], ◌∷◌, ◌++◌, length, take, drop, min, IfOk, OnOk, OnErr, IsErrOf};
+ghost use Rattle.salt_disk.specs.declared.disk.DiskFault.TheVariants.{NoMemory};
+ghost use Rattle.salt_disk.specs.Disk.{DiskState, PartState, part_of, settled, put, IsWritten, IsCut, Changes, Stays, IsHonest, read_from};
+ghost use Rattle.salt_disk.specs.Crash.{GoesOn, LeavesTheSame};
+ghost use Rattle.salt_disk.specs.Causes.{HasCause, UnlessNoMemory};
+ghost use Rattle.salt_disk.specs.declared.disk.Fuse.{Fuse};
+ghost use Rattle.salt_disk.specs.Fuse.{Burns, Lasts};
+
+use std::alloc::AllocError;
+use thiserror::Error;
+
+/// One of the three files of a disk.
+#[derive(Clone, Copy, Debug, PartialEq, Eq)]
+pub enum Part {
+    Root,
+    Even,
+    Odd,
+}
+
+/// Why a call on a disk was refused.
+#[derive(Clone, Copy, Debug, Error, PartialEq, Eq)]
+pub enum DiskFault {
+    /// Nothing was changed.
+    #[error("no memory was found")]
+    NoMemory,
+    /// The disk's count of faults rose in this call.
+    #[error("the disk failed")]
+    Failed,
+}
+
+impl From<AllocError> for DiskFault {
+    ghost from_gives = { λ _ e. e ≡ NoMemory };
+
+    fn from(_: AllocError) -> Self {
+        DiskFault::NoMemory
+    }
+}
+
+/// Which calls of a told disk fail: none, the one after so many changing calls and all after it, or all.
+#[derive(Clone, Copy, Debug, PartialEq, Eq)]
+pub enum Fuse {
+    Whole,
+    Armed(u64),
+    Out,
+}
+
+/// The places of a part from `start` on and before `end`, in bytes from its beginning.
+#[derive(Clone, Copy, Debug, PartialEq, Eq)]
+pub struct Range {
+    pub start: u64,
+    pub end: u64,
+}
+
+/// One device with three files, each of them bytes from place 0 on.
+///
+/// A disk may lose power at any moment. Between two syncs of a part, each range that was written may hold
+/// any bytes after that, also where the write failed. The part past the least length since the last sync
+/// may hold any bytes, and the length may be any number from the least to the greatest length since that
+/// sync. Bytes outside stay. After a sync that succeeds, a crash leaves what a read gives.
+pub trait Disk {
+    /// Whether this kind of disk tells what it holds. Clauses on content hold where it does.
+    ghost is_told: { Type 0 };
+
+    /// What the disk tells now. From it follows what a crash now may leave.
+    ghost state: { Self → DiskState };
+
+    /// For each earlier moment, the first one first, a state in which a crash leaves what it might have left then.
+    /// The length of this list is the time.
+    ghost past: { Self → List DiskState };
+
+    /// Which of the next calls fail.
+    ghost fuse: { Self → Fuse };
+
+    /// How often a call has failed.
+    ghost faults: { Self → ℕ };
+
+    /// The number of bytes of the part.
+    fn len(&mut self, part: Part) -> Result<u64, DiskFault>
+        ensures length { is_told → IfOk result (λ n. n ≡ length (part_of (state self.old) part).bytes) }
+        ensures same { is_told → Stays (state self.old) (state self.new) (past self.old) (past self.new) }
+        ensures memory { IsErrOf result NoMemory → ⊥ }
+        ensures fuse { is_told → Lasts (fuse self.old) (fuse self.new) result }
+        ensures cause { HasCause (faults self.old) (faults self.new) result };
+
+    /// Reads the bytes that are there from the place `at` on, as far as `into` goes, and answers their number.
+    /// After an error `into` may hold anything.
+    fn read(&mut self, part: Part, at: u64, into: &mut [u8]) -> Result<usize, DiskFault>
+        ensures room { IfOk result (λ n. n ≤ length into.old) }
+        ensures bytes { is_told → IfOk result (λ n.
+            (n ≡ min (length into.old) (length (part_of (state self.old) part).bytes - at))
+            × (into.new ≡ read_from (part_of (state self.old) part).bytes at n ++ drop n into.old)) }
+        ensures same { is_told → Stays (state self.old) (state self.new) (past self.old) (past self.new) }
+        ensures memory { IsErrOf result NoMemory → ⊥ }
+        ensures fuse { is_told → Lasts (fuse self.old) (fuse self.new) result }
+        ensures cause { HasCause (faults self.old) (faults self.new) result };
+
+    /// Writes these bytes at the place `at`, over what is there and past the end. After `Failed` the range
+    /// may hold anything; after `NoMemory` nothing was changed.
+    fn write_at(&mut self, part: Part, at: u64, bytes: &[u8]) -> Result<(), DiskFault>
+        requires { is_told → at ≤ length (part_of (state self.old) part).bytes }
+        ensures written { is_told → OnOk result ((part_of (state self.new) part).bytes ≡ put at bytes.now (part_of (state self.old) part).bytes) }
+        ensures crash { is_told → UnlessNoMemory result (Stays (state self.old) (state self.new) (past self.old) (past self.new))
+            (Changes part (IsWritten at bytes.now) (state self.old) (state self.new)) }
+        ensures time { is_told → GoesOn (state self.old) (state self.new) (past self.old) (past self.new) }
+        ensures fuse { is_told → Burns 1 (fuse self.old) (fuse self.new) result }
+        ensures fuse_memory { is_told → IsErrOf result NoMemory → fuse self.new ≡ fuse self.old }
+        ensures cause { HasCause (faults self.old) (faults self.new) result };
+
+    /// Makes the part empty. After `Failed` a crash may leave it empty or as it was.
+    fn cut(&mut self, part: Part) -> Result<(), DiskFault>
+        ensures cut { is_told → OnOk result ((part_of (state self.new) part).bytes ≡ []) }
+        ensures crash { is_told → Changes part IsCut (state self.old) (state self.new) }
+        ensures time { is_told → GoesOn (state self.old) (state self.new) (past self.old) (past self.new) }
+        ensures still { is_told → LeavesTheSame (state self.old) (state self.new) → past self.new ≡ past self.old }
+        ensures memory { IsErrOf result NoMemory → ⊥ }
+        ensures fuse { is_told → Burns 1 (fuse self.old) (fuse self.new) result }
+        ensures cause { HasCause (faults self.old) (faults self.new) result };
+
+    /// Brings the part to rest: after it, a crash leaves what a read gives. After `Failed` all is as it was.
+    fn sync(&mut self, part: Part) -> Result<(), DiskFault>
+        ensures synced { is_told → OnOk result (Changes part (λ old new. new ≡ settled old.bytes) (state self.old) (state self.new)) }
+        ensures failed { is_told → OnErr result (Stays (state self.old) (state self.new) (past self.old) (past self.new)) }
+        ensures time { is_told → GoesOn (state self.old) (state self.new) (past self.old) (past self.new) }
+        ensures still { is_told → LeavesTheSame (state self.old) (state self.new) → past self.new ≡ past self.old }
+        ensures memory { IsErrOf result NoMemory → ⊥ }
+        ensures fuse { is_told → Burns 1 (fuse self.old) (fuse self.new) result }
+        ensures cause { HasCause (faults self.old) (faults self.new) result };
+
+    /// A disk as it reads is one of its own images.
+    ghost honest: { (disk : Self) → is_told → IsHonest (state disk) };
+}

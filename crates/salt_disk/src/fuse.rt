@@ -1,0 +1,55 @@
+// When the calls of a disk in memory fail.
+ghost use Rattle.std.specs.Prelude.{◌≡◌, ◌≤◌, IsErrOf};
+ghost use Rattle.salt_disk.specs.Causes.{HasCause, Rose};
+ghost use Rattle.salt_disk.specs.Fuse.{Burns, Lasts};
+
+use crate::{DiskFault, Fuse};
+
+#[derive(Drop)]
+pub struct Faults {
+    pub fuse: Fuse,
+    pub count: u64,
+}
+
+impl Faults {
+    /// A call that changes nothing: it fails where the fuse is out.
+    pub fn pass(&mut self) -> Result<(), DiskFault>
+        ensures fuse { Lasts self.old.fuse self.new.fuse result }
+        ensures cause { HasCause self.old.count self.new.count result }
+        ensures memory { IsErrOf result DiskFault.NoMemory → ⊥ }
+    {
+        match self.fuse {
+            Fuse::Out => Err(self.failed()),
+            _ => Ok(()),
+        }
+    }
+
+    /// A changing call: it burns the fuse by one, and fails where there is nothing left of it.
+    pub fn burn(&mut self) -> Result<(), DiskFault>
+        ensures fuse { Burns 1 self.old.fuse self.new.fuse result }
+        ensures cause { HasCause self.old.count self.new.count result }
+        ensures memory { IsErrOf result DiskFault.NoMemory → ⊥ }
+    {
+        match self.fuse {
+            Fuse::Whole => Ok(()),
+            Fuse::Armed(left) if left > 0 => {
+                self.fuse = Fuse::Armed(left - 1);
+                Ok(())
+            }
+            _ => {
+                self.fuse = Fuse::Out;
+                Err(self.failed())
+            }
+        }
+    }
+
+    fn failed(&mut self) -> DiskFault
+        ensures fault { result ≡ DiskFault.Failed }
+        ensures later { self.old.count ≤ self.new.count }
+        ensures rose { Rose self.old.count self.new.count }
+        ensures fuse { self.new.fuse ≡ self.old.fuse }
+    {
+        self.count = self.count.saturating_add(1);
+        DiskFault::Failed
+    }
+}

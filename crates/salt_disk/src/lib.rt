@@ -1,0 +1,17 @@
+//! A disk of three files: what its calls do, and what a crash may leave at each moment. `Disk` is the trait,
+//! `MemDisk` a disk in memory, and `write_through` a write that is at rest once it answers.
+#![tactic(auto)]
+
+mod call;
+mod disk;
+mod fuse;
+mod memory;
+mod part;
+mod through;
+
+pub use disk::{Disk, DiskFault, Fuse, Part, Range};
+pub use memory::MemDisk;
+pub use through::write_through;
+
+#[cfg(test)]
+mod tests;
