@@ -1,0 +1,66 @@
+-- A top with minions under it is a fleet.
+use Rattle.std.proofs.Common.{◌≡◌, ℕ, zero, suc, ◌+◌, ◌<◌, ◌≤◌, ◌≢◌, ◌∙◌, sym, ap, refl, subst, Bool, true, false, List, [], ◌∷◌, length, map, bytes_eq, arith}
+use Rattle.std.specs.List.{AllByRecursion, IsDistinct, slice_index_or}
+use Rattle.std.proofs.lemmas.Map.Keys.{IsDistinct-head, IsDistinct-tail}
+use Rattle.std.proofs.lemmas.Slice.Eq.{bytes_eq-Decides}
+use Rattle.std.proofs.lemmas.List.{length-map}
+use Rattle.fleet_config.specs.declared.fleet.Member.{Member}
+use Rattle.fleet_config.specs.declared.fleet.Role.TheVariants as role
+use Rattle.fleet_config.specs.Tree.{IsFleet, flat_fleet, minion_of, id_of, member, parent_of, is_minion}
+
+ids_in : (xs : List (List ℕ)) → map (λ (m : Member). m.id) (map minion_of xs) ≡ xs
+ids_in [] = refl
+ids_in (x ∷ xs) = ap (λ l. x ∷ l) (ids_in xs)
+
+pub ids_of : (top : List ℕ) (ids : List (List ℕ)) → map (λ (m : Member). m.id) (flat_fleet top ids) ≡ top ∷ ids
+ids_of top ids = ap (λ l. top ∷ l) (ids_in ids)
+
+-- a node after the top is a minion with its id
+under : (ids : List (List ℕ)) (i : ℕ) (d : Member) → i < length ids → slice_index_or (map minion_of ids) i d ≡ minion_of (slice_index_or ids i [])
+under [] i d h = absurd (omega arith)
+under (x ∷ xs) zero d h = refl
+under (x ∷ xs) (suc i) d h = under xs i d (omega arith)
+
+-- a fact of all texts holds of each
+at_text : (P : List ℕ → Type 0) (xs : List (List ℕ)) (i : ℕ) → i < length xs → AllByRecursion P xs → P (slice_index_or xs i [])
+at_text P [] i h a = absurd (omega arith)
+at_text P (x ∷ xs) zero h a = a.0
+at_text P (x ∷ xs) (suc i) h a = at_text P xs i (omega arith) a.1
+
+apart : (a b : List ℕ) → bytes_eq a b ≡ false → a ≡ b → ⊥
+apart a b h e =
+    let yes : bytes_eq a b ≡ true = (bytes_eq-Decides a b).1 e in
+    let wrong : true ≡ false = sym yes ∙ h in
+    absurd (cc)
+
+-- equal texts of a list of distinct ones stand at one place
+one_place : (xs : List (List ℕ)) → IsDistinct bytes_eq xs → (i j : ℕ) → i < length xs → j < length xs → slice_index_or xs i [] ≡ slice_index_or xs j [] → i ≡ j
+one_place [] d i j a b e = absurd (omega arith)
+one_place (x ∷ xs) d zero zero a b e = refl
+one_place (x ∷ xs) d zero (suc j) a b e = absurd (apart x _ (at_text (λ y. bytes_eq x y ≡ false) xs j (omega arith) (IsDistinct-head bytes_eq x xs d)) e)
+one_place (x ∷ xs) d (suc i) zero a b e = absurd (apart x _ (at_text (λ y. bytes_eq x y ≡ false) xs i (omega arith) (IsDistinct-head bytes_eq x xs d)) (sym e))
+one_place (x ∷ xs) d (suc i) (suc j) a b e = ap (λ n. suc n) (one_place xs (IsDistinct-tail bytes_eq x xs d) i j (omega arith) (omega arith) e)
+
+flat_id : (top : List ℕ) (ids : List (List ℕ)) (i : ℕ) → i < length (flat_fleet top ids) → id_of (flat_fleet top ids) i ≡ slice_index_or (top ∷ ids) i []
+flat_id top ids zero h = refl
+flat_id top ids (suc i) h = ap (λ (m : Member). m.id) (under ids i _ (let n : length (map minion_of ids) ≡ length ids = length-map ids minion_of in omega arith))
+
+-- a node after the top
+flat_member : (top : List ℕ) (ids : List (List ℕ)) (i : ℕ) → 0 < i → i < length (flat_fleet top ids) → (id : List ℕ) × (member (flat_fleet top ids) i ≡ minion_of id)
+flat_member top ids zero p h = absurd (omega arith)
+flat_member top ids (suc i) p h = (_, under ids i _ (let n : length (map minion_of ids) ≡ length ids = length-map ids minion_of in omega arith))
+
+pub flat_is_fleet : (top : List ℕ) (ids : List (List ℕ)) → IsDistinct bytes_eq (top ∷ ids) → length ids ≤ 4096 → IsFleet (flat_fleet top ids)
+flat_is_fleet top ids d few = record {
+  some = omega arith;
+  few = let n : length (map minion_of ids) ≡ length ids = length-map ids minion_of in omega arith;
+  top = refl;
+  root = refl;
+  others = λ i p h. let m = flat_member top ids i p h in λ e. let wrong : role.Minion ≡ role.Top = sym (ap (λ (x : Member). x.role) m.1) ∙ e in absurd (cc);
+  before = λ i p h. let m = flat_member top ids i p h in let z : parent_of (flat_fleet top ids) i ≡ 0 = ap (λ (x : Member). x.parent.0) m.1 in omega arith;
+  master = λ i p h. let m = flat_member top ids i p h in let z : parent_of (flat_fleet top ids) i ≡ 0 = ap (λ (x : Member). x.parent.0) m.1 in rw z refl;
+  distinct = λ i j a b e. one_place (top ∷ ids) d i j
+      (let n : length (map minion_of ids) ≡ length ids = length-map ids minion_of in omega arith)
+      (let n : length (map minion_of ids) ≡ length ids = length-map ids minion_of in omega arith)
+      (sym (flat_id top ids i a) ∙ e ∙ flat_id top ids j b);
+}

@@ -1,0 +1,4 @@
+pub mod Walk
+pub mod Places
+pub mod Fleets
+pub mod Owns

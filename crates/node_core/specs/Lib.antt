@@ -1,0 +1,5 @@
+pub mod Flat
+pub mod Records
+pub mod Counts
+pub mod Node
+pub mod Logs
