@@ -1,0 +1,12 @@
+pub mod Lists
+pub mod Trees
+pub mod Places
+pub mod Records
+pub mod Steps
+pub mod Chains
+pub mod Calls
+pub mod Turns
+pub mod Laws
+pub mod Grows
+pub mod Runs
+pub mod Example

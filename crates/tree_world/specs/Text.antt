@@ -1,0 +1,67 @@
+-- The printed text, by cases on the turn and the network.
+use Rattle.std.specs.Prelude.{ℕ, ◌==◌, Bool, true, false, List, [], ◌∷◌, ◌++◌, length, flat_map, position, Option, None, Some, Result, Ok, Err, codes, decimal, if◌then◌else◌}
+use Rattle.salt_value.specs.Jid.{jid_text}
+use Rattle.fleet_config.specs.declared.fleet.Member.{Member}
+use Rattle.node_core.specs.declared.job.Job.{Job}
+use Rattle.node_core.specs.declared.job.Row.{Row}
+use Rattle.node_core.specs.declared.faults.PublishFault.{PublishFault}
+use Rattle.node_core.specs.declared.faults.PublishFault.TheVariants.{JobsFull, JidEnd, NoMemory}
+use Rattle.node_core.specs.Node.{publication}
+use Rattle.tree_world.specs.declared.turn.Turn.{Turn}
+use Rattle.tree_world.specs.declared.turn.Turn.TheVariants.{Publish, Send, Deliver, Report}
+use Rattle.tree_world.specs.Network.{Network, node_at, top_jobs, after, start}
+use Rattle.tree_world.specs.Report.{report}
+
+-- a line with its line feed
+abbrev pub line : List ℕ → List ℕ
+line bytes = bytes ++ 10 ∷ []
+
+abbrev pub refusal_text : PublishFault → List ℕ
+refusal_text (JobsFull max) = codes "JobsFull"
+refusal_text JidEnd = codes "JidEnd"
+refusal_text NoMemory = codes "NoMemory"
+
+abbrev pub publish_text : Result ℕ PublishFault → List ℕ
+publish_text (Ok jid) = line (codes "publish " ++ jid_text jid)
+publish_text (Err cause) = line (codes "refused publish " ++ refusal_text cause)
+
+-- a flag as JSON
+abbrev pub flag_text : Bool → List ℕ
+flag_text flag = if flag then codes "true" else codes "false"
+
+-- a minion's id, its retcode, and its value as JSON
+abbrev pub row_text : Row → List ℕ
+row_text row = line (row.id ++ codes " " ++ decimal row.outcome.retcode ++ codes " " ++ flag_text row.outcome.value)
+
+abbrev pub head_text : ℕ → ℕ → List ℕ
+head_text jid count = line (codes "report " ++ jid_text jid ++ codes " test.ping " ++ decimal count)
+
+abbrev pub rows_text : ℕ → List Row → List ℕ
+rows_text jid rows = head_text jid (length rows) ++ flat_map row_text rows
+
+abbrev pub unknown_text : ℕ → List ℕ
+unknown_text jid = line (codes "unknown " ++ jid_text jid)
+
+-- the number of the job with this jid
+abbrev pub number_of : ℕ → List Job → Option ℕ
+number_of jid jobs = position (λ job. job.jid == jid) jobs
+
+abbrev pub report_text : List Member → Network → ℕ → Option ℕ → List ℕ
+report_text f w jid None = unknown_text jid
+report_text f w jid (Some seq) = rows_text jid (report f (node_at w.nodes 0).records seq)
+
+-- what a turn prints
+abbrev pub printed : List Member → Turn → Network → List ℕ
+printed f (Publish moment tgt) w = publish_text (publication moment (top_jobs w))
+printed f (Send from to count) w = []
+printed f (Deliver i) w = []
+printed f (Report jid) w = report_text f w jid (number_of jid (top_jobs w))
+
+-- the text of a run from here on
+abbrev pub text_from : List Member → List Turn → Network → List ℕ
+text_from f [] w = line (codes "end")
+text_from f (turn ∷ turns) w = printed f turn w ++ text_from f turns (after f turn w)
+
+-- the text of a whole run
+abbrev pub text_of : List Member → List Turn → List ℕ
+text_of f turns = text_from f turns (start f)

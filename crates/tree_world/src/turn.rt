@@ -1,0 +1,34 @@
+use node_core::Message;
+use salt_value::{Jid, NodeId, Text};
+
+/// One line of a schedule.
+#[derive(Debug, Drop)]
+pub enum Turn {
+    /// Publishes `test.ping` at the top for the minions whose ids match the glob, at a moment in microseconds since 1970-01-01 UTC.
+    Publish {
+        moment: u64,
+        tgt: Text,
+    },
+    /// Appends the first pending messages of a node for its neighbour to the packets. A count over 4,294,967,295 means that number.
+    Send {
+        from: NodeId,
+        to: NodeId,
+        count: u64,
+    },
+    /// The receiver takes the packet with this number, from 0. One that is not there does nothing.
+    Deliver {
+        packet: u64,
+    },
+    /// Prints the report of a job at the top.
+    Report {
+        jid: Jid,
+    },
+}
+
+/// A message on its way.
+#[derive(Debug, Drop)]
+pub struct Packet {
+    pub from: NodeId,
+    pub to: NodeId,
+    pub message: Message,
+}

@@ -1,0 +1,294 @@
+ghost use Rattle.std.specs.Prelude.{◌≡◌, ◌∷◌, ◌<◌, ◌≤◌, ◌++◌, ◌^◌, List, slice_set, length, map, take, true, IfOk, OnOk, IsErrOf};
+ghost use Rattle.std.specs.List.{IsDistinct};
+ghost use Rattle.std.specs.Str.{bytes_eq};
+ghost use Rattle.fleet_config.specs.Tree.{flat_fleet};
+ghost use Rattle.node_core.specs.Node.{first_node, pending, taken, is_neighbour};
+ghost use Rattle.tree_world.specs.Network.{node_at, with_reply, replied};
+ghost use Rattle.tree_world.specs.declared.turn.Packet.{Packet};
+ghost use Rattle.tree_world.specs.Network as network;
+ghost use Rattle.salt_outside.specs.Causes.{Rose};
+ghost use Rattle.salt_outside.specs.Streams.{appended, IsPart};
+
+use crate::report::{by_id, rows_of};
+use crate::text::{number_of, publish_text, rows_text, unknown_text};
+use crate::{Packet, Turn};
+use fleet_config::Fleet;
+use node_core::{Message, Node, PublishFault, TakeFault};
+use salt_outside::{Outside, Sink};
+use salt_value::{Jid, MinionId, NodeId, Text};
+use sqlite_items::{Items, at};
+use std::alloc::{AllocError, Global};
+use std::marker::Model;
+use thiserror::Error;
+
+/// A fleet, its nodes, and the packets that were ever sent.
+#[derive(Debug, Drop)]
+pub struct World {
+    alloc: Global,
+    fleet: Fleet,
+    order: Vec<u32>,
+    nodes: Vec<Node>,
+    packets: Vec<Packet>,
+}
+
+impl Model for World {
+    ghost use Rattle.std.specs.Prelude.{◌≡◌, ◌<◌, All, length};
+    ghost use Rattle.fleet_config.specs.Tree.{minions};
+    ghost use Rattle.tree_world.specs.Network.{System};
+
+    ghost Value = { System };
+
+    ghost use Rattle.tree_world.specs.Report as report;
+
+    ghost view = { λ w. record { fleet = w.fleet; network = record { nodes = w.nodes.items; packets = w.packets.items } } };
+
+    ghost invariant = { λ w. (length w.nodes.items ≡ length w.fleet) × (w.order.items ≡ report.by_id w.fleet (minions w.fleet 0)) × All (λ m. m < length w.fleet) w.order.items × (0 < length w.fleet) };
+}
+
+/// Why a turn was not finished. The world is given up.
+#[derive(Clone, Copy, Debug, Error, PartialEq, Eq)]
+pub enum StepFault {
+    #[error("no memory was found")]
+    NoMemory,
+    #[error("the text could not be written")]
+    WriteFault,
+}
+
+impl From<AllocError> for StepFault {
+    ghost use Rattle.tree_world.specs.declared.world.StepFault.TheVariants.{NoMemory};
+
+    ghost from_gives = { λ _ e. e ≡ NoMemory };
+
+    fn from(_: AllocError) -> StepFault {
+        StepFault::NoMemory
+    }
+}
+
+impl World {
+    ghost use Rattle.tree_world.specs.Network.{System, system, after, published, node_at, IsTurn, top_jobs};
+    ghost use Rattle.node_core.specs.Node.{publication, is_neighbour};
+    ghost use Rattle.tree_world.specs.Text.{printed};
+
+    /// A top and at most 4,096 minions under it, with distinct ids. Each minion has booted once.
+    pub fn new(alloc: Global, top: MinionId, minions: Items<MinionId>) -> Result<World, AllocError>
+        requires distinct { IsDistinct bytes_eq (top ∷ minions) }
+        requires few { length minions ≤ 4096 }
+        ensures { IfOk result (λ world. world ≡ system (flat_fleet top minions)) }
+    {
+        World::of(alloc, Fleet::flat(alloc, top, minions)?)
+    }
+
+    /// The nodes of a fleet as they start.
+    pub fn of(alloc: Global, fleet: Fleet) -> Result<World, AllocError>
+        ensures { IfOk result (λ world. world ≡ system fleet) }
+    {
+        let minions = fleet.minions(alloc, NodeId(0))?;
+        let order = by_id(alloc, &fleet, &minions)?;
+        let nodes = first_nodes(alloc, &fleet)?;
+        Ok(World {
+            alloc,
+            fleet,
+            order,
+            nodes,
+            packets: Vec::new(alloc),
+        })
+    }
+
+    /// One turn: the network goes on by its step, and what the turn prints is written to the sink. After an `Err` the world is given
+    /// up, and a front of the text was written.
+    pub fn step<K: Sink>(&mut self, turn: &Turn, sink: &mut K) -> Result<(), StepFault>
+        requires { IsTurn self.old.fleet turn.now }
+        ensures state { OnOk result (self.new.network ≡ after self.old.fleet turn.now self.old.network) }
+        ensures fleet { self.new.fleet ≡ self.old.fleet }
+        ensures text { OnOk result (K.held sink.new ≡ appended (K.held sink.old) (printed self.old.fleet turn.now self.old.network)) }
+        ensures part { IsPart (K.held sink.old) (K.held sink.new) (printed self.old.fleet turn.now self.old.network) }
+        ensures fault { IsErrOf result StepFault.WriteFault → Rose (K.faults sink.old) (K.faults sink.new) }
+        ensures later { K.faults sink.old ≤ K.faults sink.new }
+    {
+        match turn {
+            Turn::Publish { moment, tgt } => {
+                let text = self.publish(*moment, tgt)?;
+                tell(sink, &text)
+            }
+            Turn::Send { from, to, count } => Ok(self.send(*from, *to, *count)?),
+            Turn::Deliver { packet } => Ok(self.deliver(*packet)?),
+            Turn::Report { jid } => {
+                let text = self.report(*jid)?;
+                tell(sink, &text)
+            }
+        }
+    }
+
+    // A publication at the top, and its line.
+    fn publish(&mut self, moment: u64, tgt: &Text) -> Result<Vec<u8>, AllocError>
+        ensures state { OnOk result (self.new.network ≡ after self.old.fleet (Turn.Publish moment tgt.now) self.old.network) }
+        ensures fleet { self.new.fleet ≡ self.old.fleet }
+        ensures text { IfOk result (λ text. text.items ≡ printed self.old.fleet (Turn.Publish moment tgt.now) self.old.network) }
+    {
+        let outcome = self.publish_at_top(moment, tgt)?;
+        publish_text(self.alloc, &outcome)
+    }
+
+    // The record of a publication, or why it is refused.
+    fn publish_at_top(
+        &mut self,
+        moment: u64,
+        tgt: &Text,
+    ) -> Result<Result<Jid, PublishFault>, AllocError>
+        ensures outcome { IfOk result (λ outcome. outcome ≡ publication moment (top_jobs self.old.network)) }
+        ensures state { IfOk result (λ outcome. self.new.network ≡ published tgt.now outcome self.old.network) }
+        ensures fleet { self.new.fleet ≡ self.old.fleet }
+    {
+        let Some(top) = self.nodes.first_mut() else {
+            return Err(AllocError);
+        };
+        match top.publish(moment, tgt) {
+            Ok(jid) => Ok(Ok(jid)),
+            Err(PublishFault::NoMemory) => Err(AllocError),
+            Err(cause) => Ok(Err(cause)),
+        }
+    }
+
+    // The lines of a report.
+    fn report(&self, jid: Jid) -> Result<Vec<u8>, AllocError>
+        ensures { IfOk result (λ text. text.items ≡ printed self.now.fleet (Turn.Report jid) self.now.network) }
+    {
+        let Some(top) = self.nodes.first() else {
+            return Err(AllocError);
+        };
+        let Some(seq) = number_of(jid, top.jobs()) else {
+            return unknown_text(self.alloc, jid);
+        };
+        let rows = rows_of(self.alloc, &self.fleet, top, seq as u32, &self.order)?;
+        rows_text(self.alloc, jid, &rows)
+    }
+
+    // The pending messages of a node for a neighbour, as packets.
+    fn send(&mut self, from: NodeId, to: NodeId, count: u64) -> Result<(), AllocError>
+        requires from { from.0 < length self.old.fleet }
+        requires neighbour { is_neighbour self.old.fleet from.0 to.0 ≡ true }
+        ensures state { OnOk result (self.new.network ≡ after self.old.fleet (Turn.Send from to count) self.old.network) }
+        ensures fleet { self.new.fleet ≡ self.old.fleet }
+    {
+        let max = count.min(u32::MAX as u64) as u32;
+        let messages = pending_of(&self.fleet, &self.nodes, from, to, max)?;
+        push_packets(&mut self.packets, from, to, messages)
+    }
+
+    // The receiver takes a packet, and its reply is a packet.
+    #[tactic(auto, using(crate::proofs::Delivers::delivered_past, crate::proofs::Delivers::delivered_to))]
+    fn deliver(&mut self, i: u64) -> Result<(), AllocError>
+        requires { i < 2 ^ 64 }
+        ensures state { OnOk result (self.new.network ≡ after self.old.fleet (Turn.Deliver i) self.old.network) }
+        ensures fleet { self.new.fleet ≡ self.old.fleet }
+    {
+        let Some(packet) = at(&self.packets, i as usize) else {
+            return Ok(());
+        };
+        let (from, to) = (packet.from, packet.to);
+        if to.0 as usize >= self.nodes.len() {
+            return Ok(());
+        }
+        let reply = take_packet(&self.fleet, &mut self.nodes, packet)?;
+        push_reply(&mut self.packets, from, to, reply)?;
+        Ok(())
+    }
+}
+
+// The receiver takes a packet, and may reply.
+fn take_packet(
+    fleet: &Fleet,
+    nodes: &mut Vec<Node>,
+    packet: &Packet,
+) -> Result<Option<Message>, AllocError>
+    requires node { packet.now.to.0 < length nodes.old.items }
+    requires nodes { length nodes.old.items ≡ length fleet.now }
+    ensures nodes { OnOk result (nodes.new.items ≡ slice_set nodes.old.items packet.now.to.0 (taken fleet.now packet.now.to.0 packet.now.from.0 packet.now.message (node_at nodes.old.items packet.now.to.0)).node) }
+    ensures reply { IfOk result (λ reply. (packets : List Packet) → with_reply packet.now (taken fleet.now packet.now.to.0 packet.now.from.0 packet.now.message (node_at nodes.old.items packet.now.to.0)).answer packets ≡ replied packet.now reply packets) }
+    ensures count { length nodes.new.items ≡ length nodes.old.items }
+{
+    let node = &mut nodes[packet.to.0 as usize];
+    match node.take(fleet, packet.to, packet.from, &packet.message) {
+        Ok(reply) => Ok(reply),
+        Err(TakeFault::Stray { .. }) => Ok(None),
+        Err(TakeFault::NoMemory) => Err(AllocError),
+    }
+}
+
+// A reply as a packet, if there is one.
+fn push_reply(
+    packets: &mut Vec<Packet>,
+    from: NodeId,
+    to: NodeId,
+    reply: Option<Message>,
+) -> Result<(), AllocError>
+    ensures { (p : Packet) → p.from ≡ from → p.to ≡ to → OnOk result (packets.new.items ≡ replied p reply packets.old.items) }
+{
+    if let Some(message) = reply {
+        packets.push(Packet {
+            from: to,
+            to: from,
+            message,
+        })?;
+    }
+    Ok(())
+}
+
+// What a node has for a neighbour.
+fn pending_of(
+    fleet: &Fleet,
+    nodes: &[Node],
+    from: NodeId,
+    to: NodeId,
+    max: u32,
+) -> Result<Vec<Message>, AllocError>
+    requires from { from.0 < length fleet.now }
+    requires nodes { length nodes.now ≡ length fleet.now }
+    requires neighbour { is_neighbour fleet.now from.0 to.0 ≡ true }
+    ensures { IfOk result (λ messages. messages.items ≡ take max (pending fleet.now from.0 to.0 (node_at nodes.now from.0))) }
+{
+    match nodes[from.0 as usize].pending(fleet, from, to, max) {
+        Ok(messages) => Ok(messages),
+        Err(_) => Err(AllocError),
+    }
+}
+
+// These messages as packets, after those that are there.
+fn push_packets(
+    packets: &mut Vec<Packet>,
+    from: NodeId,
+    to: NodeId,
+    messages: Vec<Message>,
+) -> Result<(), AllocError>
+    ensures { OnOk result (packets.new.items ≡ packets.old.items ++ map (network.packet from.0 to.0) messages.items) }
+{
+    for message in messages {
+        packets.push(Packet { from, to, message })?;
+    }
+    Ok(())
+}
+
+/// Writes a text.
+pub fn tell<K: Sink>(sink: &mut K, text: &[u8]) -> Result<(), StepFault>
+    ensures ok { OnOk result (K.held sink.new ≡ appended (K.held sink.old) text.now) }
+    ensures part { IsPart (K.held sink.old) (K.held sink.new) text.now }
+    ensures fault { IsErrOf result StepFault.WriteFault → Rose (K.faults sink.old) (K.faults sink.new) }
+    ensures later { K.faults sink.old ≤ K.faults sink.new }
+{
+    match sink.write(text) {
+        Ok(()) => Ok(()),
+        Err(Outside::NoMemory) => Err(StepFault::NoMemory),
+        Err(Outside::Failed) => Err(StepFault::WriteFault),
+    }
+}
+
+// Each node as it starts.
+fn first_nodes(alloc: Global, fleet: &Fleet) -> Result<Vec<Node>, AllocError>
+    ensures { IfOk result (λ nodes. nodes.items ≡ map first_node fleet.now) }
+{
+    let mut nodes = Vec::new(alloc);
+    for i in 0..fleet.count() {
+        nodes.push(Node::start(alloc, fleet, NodeId(i))?)?;
+    }
+    Ok(nodes)
+}
