@@ -1,0 +1,13 @@
+pub mod Numbers
+pub mod Words
+pub mod Pairs
+pub mod Ids
+pub mod TurnParts
+pub mod Peel
+pub mod Follow
+pub mod Readings
+pub mod TurnLines
+pub mod Refusals
+pub mod Tops
+pub mod Drafts
+pub mod Compared

@@ -1,0 +1,17 @@
+use Rattle.std.proofs.Common.{sym, ◌∙◌}
+use Rattle.script_text.proofs.TurnLines.{send_found, send_apart, send_none}
+use Rattle.script_text.proofs.turns.read_send.Goals as goal
+
+pub returns-then-are_neighbours : goal.returns-then-are_neighbours
+returns-then-are_neighbours c =
+    send_found c.args.ids.now.keys c.args.line.now c.args.rest.now (c.in-Some.from, (c.in-Some.to, c.in-Some.count)) c.requires.line
+    (rw c.in-Some.is at (c.in_ok-from.ensures {u = tt})) (sym c.are_neighbours.ensures ∙ c.if-are_neighbours.true)
+
+pub returns-else-are_neighbours : goal.returns-else-are_neighbours
+returns-else-are_neighbours c =
+    send_apart c.args.ids.now.keys c.args.line.now c.args.rest.now (c.in-Some.from, (c.in-Some.to, c.in-Some.count)) c.requires.line
+    (rw c.in-Some.is at (c.in_ok-from.ensures {u = tt})) (sym c.are_neighbours.ensures ∙ c.if-are_neighbours.false)
+
+pub returns-in-None : goal.returns-in-None
+returns-in-None c =
+    send_none c.args.ids.now.keys c.args.line.now c.args.rest.now c.requires.line (rw c.in-None.is at (c.in_ok-from.ensures {u = tt}))

@@ -1,0 +1,6 @@
+pub mod Lines
+pub mod Script
+pub mod Refused
+pub mod Draft
+pub mod Fleet
+pub mod Turns

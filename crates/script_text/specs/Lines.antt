@@ -1,0 +1,18 @@
+-- The lines and the words of a text.
+use Rattle.std.specs.Prelude.{ℕ, ◌≡◌, ◌==◌, false, List, [], ◌∷◌, ◌++◌, if◌then◌else◌}
+use Rattle.std.specs.List.{onto_first, AllByRecursion}
+
+-- the lines of a text: each ends with a line feed, the last one with it or with the text
+abbrev pub lines_of : List ℕ → List (List ℕ)
+lines_of [] = []
+lines_of (b ∷ bytes) = if b == 10 then [] ∷ lines_of bytes else onto_first b (lines_of bytes)
+
+-- no byte is this mark
+abbrev pub Lacks : ℕ → List ℕ → Type 0
+Lacks mark bytes = AllByRecursion (λ b. b == mark ≡ false) bytes
+
+-- words parted by one space
+abbrev pub spaced : List (List ℕ) → List ℕ
+spaced [] = []
+spaced (word ∷ []) = word
+spaced (word ∷ next ∷ words) = word ++ 32 ∷ spaced (next ∷ words)
