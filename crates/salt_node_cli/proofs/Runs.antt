@@ -1,0 +1,88 @@
+-- What a run over a script that was read does.
+use Rattle.std.proofs.Common.{◌≡◌, ◌⊎◌, ℕ, List, [], ◌∷◌, ◌++◌, subst, ◌∙◌, inl, inr, refl, arith, append-nil}
+use Rattle.std.specs.List.{AllByRecursion}
+use Rattle.fleet_config.specs.declared.fleet.Member.{Member}
+use Rattle.tree_world.specs.declared.turn.Turn.{Turn}
+use Rattle.tree_world.specs.Network.{IsTurn}
+use Rattle.script_text.specs.Refused.{IsRefusedAt}
+use Rattle.std.specs.Prelude.{◌≢◌, Option, None, Some}
+use Rattle.salt_outside.specs.Causes.{Rose}
+use Rattle.salt_outside.specs.Streams.{appended, preceded, IsPart, IsAtEnd, HasAtMost}
+use Rattle.script_text.specs.declared.script.Script.{Script}
+use Rattle.script_text.specs.Script.{Spells, MayStand}
+use Rattle.salt_node_cli.specs.Replay.{Replayed, MaySpell, DoesSpell, MayRefuse, IsReplayStatus, refused_line, text_of_script, StaysSound}
+
+some_same : (a b : List ℕ) → Some a ≡ Some b → a ≡ b
+some_same a b e = cc
+
+-- the text that was read is all that was left
+all_read : (text bytes : List ℕ) (rest : Option (List ℕ)) → Some bytes ≡ preceded text rest → IsAtEnd rest → bytes ≡ text
+all_read text bytes None e end = cc
+all_read text bytes (Some l) e end = some_same bytes (text ++ l) e ∙ rw end (append-nil text)
+
+pub may_spell : (s : Script) (text : List ℕ) (left rest : Option (List ℕ)) → left ≡ preceded text rest → IsAtEnd rest → Spells s text → MaySpell s left
+may_spell s text None rest e end h = h.0
+may_spell s text (Some bytes) rest e end h = rw (all_read text bytes rest e end) h
+
+pub does_spell : (s : Script) (text : List ℕ) (left rest : Option (List ℕ)) → left ≡ preceded text rest → IsAtEnd rest → DoesSpell s left → Spells s text
+does_spell s text None rest e end h = absurd h
+does_spell s text (Some bytes) rest e end h = let P : List ℕ → Type 0 = λ t. Spells s t in subst P (all_read text bytes rest e end) h
+
+status_of : (code : ℕ) → (code ≡ 0) ⊎ (code ≡ 1) ⊎ (code ≡ 5) → IsReplayStatus code
+status_of code h = grind arith
+
+not_status : (code n : ℕ) → (code ≡ 0) ⊎ (code ≡ 1) ⊎ (code ≡ 5) → code ≡ n → n ≢ 0 → n ≢ 1 → n ≢ 5 → ⊥
+not_status code n h e a b c = grind arith
+
+-- what a run over the script that was read does
+pub replayed : (left : Option (List ℕ)) (read_before read_now : ℕ) (held_before held_now : Option (List ℕ)) (write_before write_now code : ℕ)
+    (text : List ℕ) (rest : Option (List ℕ)) (s : Script)
+    → left ≡ preceded text rest → IsAtEnd rest → Spells s text → ((other : Script) → Spells other text → other ≡ s)
+    → IsPart held_before held_now (text_of_script s)
+    → (code ≡ 0 → held_now ≡ appended held_before (text_of_script s))
+    → (code ≡ 5 → Rose write_before write_now)
+    → (code ≡ 0) ⊎ (code ≡ 1) ⊎ (code ≡ 5) → HasAtMost 16777216 left
+    → Replayed left read_before read_now held_before held_now write_before write_now code
+replayed left rb rn hb hn wb wn code text rest s e end spells only part done rose cases fits =
+    let may : MaySpell s left = may_spell s text left rest e end spells in
+    let same : (other : Script) → DoesSpell other left → other ≡ s = λ other h. only other (does_spell other text left rest e end h) in
+    record {
+      status = status_of code cases;
+      done = λ z. (s, may, done z);
+      text = λ other h z. rw (same other h) (done z);
+      part = λ other h z. rw (same other h) part;
+      write_fault = λ z. (rose z, (s, may));
+      refused = λ z other h. not_status code 3 cases z (omega arith) (omega arith) (omega arith);
+      refusal = λ z. absurd (not_status code 3 cases z (omega arith) (omega arith) (omega arith));
+      read_fault = λ z. absurd (not_status code 4 cases z (omega arith) (omega arith) (omega arith));
+      too_long = λ z. absurd (not_status code 12 cases z (omega arith) (omega arith) (omega arith));
+      fits = λ z. fits;
+    }
+
+-- what a run over a text that is no script does
+pub may_refuse : (n : ℕ) (text : List ℕ) (left rest : Option (List ℕ)) → left ≡ preceded text rest → IsAtEnd rest → IsRefusedAt n text → MayRefuse n left
+may_refuse n text None rest e end h = tt
+may_refuse n text (Some bytes) rest e end h = rw (all_read text bytes rest e end) h
+
+pub refused_run : (left : Option (List ℕ)) (read_before read_now : ℕ) (held_before held_now : Option (List ℕ)) (write_before write_now : ℕ)
+    (text : List ℕ) (rest : Option (List ℕ)) (n : ℕ)
+    → left ≡ preceded text rest → IsAtEnd rest → ((other : Script) → Spells other text → ⊥) → IsRefusedAt n text
+    → IsPart held_before held_now (refused_line n) → HasAtMost 16777216 left
+    → Replayed left read_before read_now held_before held_now write_before write_now 3
+refused_run left rb rn hb hn wb wn text rest n e end none place part fits = record {
+  status = inr (inr (inl refl));
+  done = λ z. absurd (omega (arith, z));
+  text = λ other h z. absurd (omega (arith, z));
+  part = λ other h z. absurd (grind (arith, z));
+  write_fault = λ z. absurd (omega (arith, z));
+  refused = λ z other h. none other (does_spell other text left rest e end h);
+  refusal = λ z. (n, may_refuse n text left rest e end place, part);
+  read_fault = λ z. absurd (omega (arith, z));
+  too_long = λ z. absurd (omega (arith, z));
+  fits = λ z. fits;
+}
+
+-- the turns of a script are turns of its fleet
+pub are_turns : (f : List Member) (turns : List Turn) → AllByRecursion (MayStand f) turns → AllByRecursion (IsTurn f) turns
+are_turns f [] h = tt
+are_turns f (turn ∷ turns) h = (h.0.0, are_turns f turns h.1)

@@ -1,0 +1,72 @@
+-- What a run over a script does.
+use Rattle.std.specs.Prelude.{◌≡◌, ◌⊎◌, ℕ, ◌≤◌, List, ◌∷◌, ◌++◌, length, codes, decimal, Option, None, Some}
+use Rattle.std.specs.Prelude.{All}
+use Rattle.salt_outside.specs.Causes.{Rose}
+use Rattle.salt_outside.specs.Streams.{appended, IsPart, HasMoreThan, HasAtMost}
+use Rattle.tree_world.specs.declared.turn.Turn.{Turn}
+use Rattle.tree_world.specs.Network.{top_jobs}
+use Rattle.tree_world.specs.Text.{text_of, line}
+use Rattle.tree_laws.specs.Laws.{network_after, IsReportFlat, IsTaken}
+use Rattle.script_text.specs.declared.script.Script.{Script}
+use Rattle.script_text.specs.Script.{IsScript, Spells, fleet_of}
+use Rattle.script_text.specs.Refused.{IsRefusedAt}
+
+-- the text of the network machine over a script
+abbrev pub text_of_script : Script → List ℕ
+text_of_script s = text_of (fleet_of s) s.turns
+
+-- The source had the text of this script left, where that is told.
+abbrev pub MaySpell : Script → Option (List ℕ) → Type 0
+MaySpell s None = IsScript s
+MaySpell s (Some bytes) = Spells s bytes
+
+-- It is told, and had the text of this script left.
+abbrev pub DoesSpell : Script → Option (List ℕ) → Type 0
+DoesSpell s None = ⊥
+DoesSpell s (Some bytes) = Spells s bytes
+
+-- The first line with which no script goes on is this one, where the text is told.
+abbrev pub MayRefuse : ℕ → Option (List ℕ) → Type 0
+MayRefuse n None = Unit {0}
+MayRefuse n (Some bytes) = IsRefusedAt n bytes
+
+abbrev pub refused_line : ℕ → List ℕ
+refused_line n = line (codes "refused script " ++ decimal n ++ codes " NotYet")
+
+abbrev pub full_source_line : List ℕ
+full_source_line = line (codes "full source")
+
+abbrev pub no_command_line : List ℕ
+no_command_line = line (codes "salt_node: the words are no command")
+
+-- 0 the whole text, 1 no memory, 3 no script, 4 the source failed, 5 the sink failed, 12 too long a source
+abbrev pub IsReplayStatus : ℕ → Type 0
+IsReplayStatus code = (code ≡ 0) ⊎ (code ≡ 1) ⊎ (code ≡ 3) ⊎ (code ≡ 4) ⊎ (code ≡ 5) ⊎ (code ≡ 12)
+
+-- what the source had left, its count of faults before and after, what the sink held before and after, its counts, and the status
+pub record Replayed (left : Option (List ℕ)) (read_before read_now : ℕ) (held_before held_now : Option (List ℕ)) (write_before write_now : ℕ) (code : ℕ) : Type 0 where
+  pub status : IsReplayStatus code
+  -- Status 0 comes for a script alone, and then its whole text was written.
+  pub done : code ≡ 0 → (s : Script) × MaySpell s left × (held_now ≡ appended held_before (text_of_script s))
+  -- Over a script the text is this script's and no other.
+  pub text : (s : Script) → DoesSpell s left → code ≡ 0 → held_now ≡ appended held_before (text_of_script s)
+  -- A front of the text was written where memory or the sink failed.
+  pub part : (s : Script) → DoesSpell s left → (code ≡ 1) ⊎ (code ≡ 5) → IsPart held_before held_now (text_of_script s)
+  -- Status 5 comes only where the sink failed, over a script.
+  pub write_fault : code ≡ 5 → Rose write_before write_now × ((s : Script) × MaySpell s left)
+  -- Status 3 never comes over a script. Its one line names the first line with which no script goes on.
+  pub refused : code ≡ 3 → (s : Script) → DoesSpell s left → ⊥
+  pub refusal : code ≡ 3 → (n : ℕ) × MayRefuse n left × IsPart held_before held_now (refused_line n)
+  -- Status 4 comes only where the source failed, and nothing was written.
+  pub read_fault : code ≡ 4 → Rose read_before read_now × (held_now ≡ held_before)
+  -- Status 12 comes only over more than 16,777,216 bytes, and there neither status 0 nor 3 nor 5 comes.
+  pub too_long : code ≡ 12 → HasMoreThan 16777216 left × IsPart held_before held_now full_source_line
+  pub fits : (code ≡ 0) ⊎ (code ≡ 3) ⊎ (code ≡ 5) → HasAtMost 16777216 left
+
+-- After every turn of a script, each row of a report at the top is one that the flat fleet gives, running the top's list of jobs in
+-- order, and no packet is stray.
+abbrev pub StaysSound : Script → Type 0
+StaysSound s =
+    (turns later : List Turn) → s.turns ≡ turns ++ later
+    → ((seq : ℕ) → IsReportFlat (fleet_of s) (top_jobs (network_after (fleet_of s) turns)) (network_after (fleet_of s) turns) seq)
+    × All (IsTaken (fleet_of s) (network_after (fleet_of s) turns)) (network_after (fleet_of s) turns).packets

@@ -1,0 +1,159 @@
+ghost use Rattle.std.specs.Prelude.{◌≡◌, ◌≢◌, ◌≤◌, ◌∷◌, [], ◌↔◌, codes, length, IsTrue, IfOk, OnOk, IsErrOf};
+ghost use Rattle.salt_outside.specs.Causes.{Rose};
+ghost use Rattle.salt_outside.specs.Streams.{appended, IsPart};
+ghost use Rattle.std.specs.List.{AllByRecursion};
+ghost use Rattle.tree_world.specs.Network.{IsTurn};
+ghost use Rattle.tree_world.specs.Text.{text_from};
+ghost use Rattle.script_text.specs.Script.{IsScript};
+ghost use Rattle.salt_node_cli.specs.Replay.{text_of_script, refused_line, Replayed, StaysSound, no_command_line};
+ghost use Rattle.script_text.specs.declared.script.Script.{Script};
+
+use salt_outside::{ReadAll, Sink, Source, read_all};
+use salt_value::Text;
+use script_text::{Script, ScriptFault, read_script};
+use std::alloc::{AllocError, Global};
+use tree_laws::whole_runs;
+use tree_world::{StepFault, Turn, World, tell};
+
+/// How a command ended: the exit status of the program.
+#[derive(Clone, Copy, Debug, PartialEq, Eq)]
+pub struct Status {
+    pub code: u8,
+}
+
+/// The greatest number of bytes of a script.
+const LIMIT: usize = 16_777_216;
+
+// Runs the turns, and prints the text.
+fn run_turns<K: Sink>(world: &mut World, turns: &[Turn], sink: &mut K) -> Result<(), StepFault>
+    requires { AllByRecursion (IsTurn world.old.fleet) turns.now }
+    ensures text { OnOk result (K.held sink.new ≡ appended (K.held sink.old) (text_from world.old.fleet turns.now world.old.network)) }
+    ensures part { IsPart (K.held sink.old) (K.held sink.new) (text_from world.old.fleet turns.now world.old.network) }
+    ensures fault { IsErrOf result StepFault.WriteFault → Rose (K.faults sink.old) (K.faults sink.new) }
+    ensures later { K.faults sink.old ≤ K.faults sink.new }
+{
+    for turn in turns {
+        world.step(turn, sink)?;
+    }
+    tell(sink, b"end\n")
+}
+
+// Runs a script.
+fn play<K: Sink>(alloc: Global, script: Script, sink: &mut K) -> Result<(), StepFault>
+    requires { IsScript script }
+    ensures text { OnOk result (K.held sink.new ≡ appended (K.held sink.old) (text_of_script script)) }
+    ensures part { IsPart (K.held sink.old) (K.held sink.new) (text_of_script script) }
+    ensures fault { IsErrOf result StepFault.WriteFault → Rose (K.faults sink.old) (K.faults sink.new) }
+    ensures later { K.faults sink.old ≤ K.faults sink.new }
+{
+    let Script {
+        top,
+        minions,
+        turns,
+    } = script;
+    let mut world = World::new(alloc, top, minions)?;
+    run_turns(&mut world, turns.as_slice(), sink)
+}
+
+// The line that refuses a script.
+#[tactic(auto, using(salt_outside::proofs::Parts::part_none))]
+fn write_refusal<K: Sink>(alloc: Global, line: u32, sink: &mut K)
+    ensures { IsPart (K.held sink.old) (K.held sink.new) (refused_line line) }
+{
+    if let Ok(text) = refusal_text(alloc, line) {
+        let _ = sink.write(&text);
+    }
+}
+
+fn refusal_text(alloc: Global, line: u32) -> Result<Vec<u8>, AllocError>
+    ensures { IfOk result (λ v. v.items ≡ refused_line line) }
+{
+    let mut text = Vec::new(alloc);
+    text.extend_from_slice(b"refused script ")?;
+    let number = line.to_string(alloc)?;
+    text.extend_from_slice(number.as_bytes())?;
+    text.extend_from_slice(b" NotYet\n")?;
+    Ok(text)
+}
+
+// What holds after every turn of every script.
+fn scripts_stay_sound()
+    ensures { (script : Script) → IsScript script → StaysSound script }
+{
+    whole_runs();
+}
+
+/// Reads a script and writes the text of its run. Status 0 is a whole run, 1 want of memory, 3 a text that is no script, 4 a source
+/// that failed, 5 a sink that failed, and 12 a source of over 16,777,216 bytes.
+pub fn run_replay<S: Source, K: Sink>(alloc: Global, source: &mut S, sink: &mut K) -> Status
+    ensures sound { (script : Script) → IsScript script → StaysSound script }
+    ensures replayed { Replayed (S.left source.old) (S.faults source.old) (S.faults source.new) (K.held sink.old) (K.held sink.new) (K.faults sink.old) (K.faults sink.new) result.code }
+{
+    scripts_stay_sound();
+    replay_script(alloc, source, sink)
+}
+
+// Reads a script and runs it.
+fn replay_script<S: Source, K: Sink>(alloc: Global, source: &mut S, sink: &mut K) -> Status
+    ensures { Replayed (S.left source.old) (S.faults source.old) (S.faults source.new) (K.held sink.old) (K.held sink.new) (K.faults sink.old) (K.faults sink.new) result.code }
+{
+    let text = match read_all(alloc, source, LIMIT) {
+        Ok(text) => text,
+        Err(ReadAll::NoMemory) => return Status { code: 1 },
+        Err(ReadAll::ReadFault) => return Status { code: 4 },
+        Err(ReadAll::TooLong { .. }) => {
+            let _ = sink.write(b"full source\n");
+            return Status { code: 12 };
+        }
+    };
+    let script = match read_script(alloc, &text) {
+        Ok(script) => script,
+        Err(ScriptFault::NoMemory) => return Status { code: 1 },
+        Err(ScriptFault::NotYet { line }) => {
+            write_refusal(alloc, line, sink);
+            return Status { code: 3 };
+        }
+    };
+    match play(alloc, script, sink) {
+        Ok(()) => Status { code: 0 },
+        Err(StepFault::NoMemory) => Status { code: 1 },
+        Err(StepFault::WriteFault) => Status { code: 5 },
+    }
+}
+
+/// Runs the command that the words are: the one word `replay`. Status 2 says that they are no command.
+pub fn salt_main<S: Source, K: Sink>(
+    alloc: Global,
+    words: &[Text],
+    source: &mut S,
+    sink: &mut K,
+) -> Status
+    ensures sound { words.now ≡ codes "replay" ∷ [] → (script : Script) → IsScript script → StaysSound script }
+    ensures replay { words.now ≡ codes "replay" ∷ [] →
+        Replayed (S.left source.old) (S.faults source.old) (S.faults source.new) (K.held sink.old) (K.held sink.new)
+        (K.faults sink.old) (K.faults sink.new) result.code }
+    ensures no_command { words.now ≢ codes "replay" ∷ [] → (result.code ≡ 2) × IsPart (K.held sink.old) (K.held sink.new) no_command_line }
+{
+    if is_replay(words) {
+        run_replay(alloc, source, sink)
+    } else {
+        let _ = sink.write(b"salt_node: the words are no command\n");
+        Status { code: 2 }
+    }
+}
+
+// Are the words the one word `replay`?
+fn is_replay(words: &[Text]) -> bool
+    ensures { IsTrue result ↔ (words.now ≡ codes "replay" ∷ []) }
+{
+    match words {
+        [word] => is_word(word),
+        _ => false,
+    }
+}
+
+fn is_word(word: &Text) -> bool
+    ensures { IsTrue result ↔ (word.now ≡ codes "replay") }
+{
+    word.as_str() == "replay"
+}
