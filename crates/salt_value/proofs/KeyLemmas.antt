@@ -1,5 +1,5 @@
 -- The order of keys.
-use Rattle.std.proofs.Common.{◌≡◌, ℕ, zero, suc, ◌-◌, Bool, true, false, ◌&&◌, List, [], ◌∷◌, ◌++◌, length, option_map, ◌<◌, ◌≤◌, get_or, take, drop, drop-cons, map, refl, sym, ap, ◌∙◌, arith}
+use Rattle.std.proofs.Common.{◌≡◌, ℕ, zero, suc, ◌-◌, Bool, true, false, ◌&&◌, List, [], ◌∷◌, ◌++◌, length, Some, option_map, ◌<◌, ◌≤◌, get_or, take, drop, drop-cons, map, refl, sym, ap, ◌∙◌, arith}
 use Rattle.std.specs.Prelude.{slice_get}
 use Rattle.std.proofs.lemmas.List.{take-append-drop}
 use denote.Param.Weighed.{most}
@@ -21,6 +21,12 @@ ascends-push (q ∷ []) p h after = and_true _ _ after refl
 ascends-push (q ∷ r ∷ ps) p h after =
     let parts = first_of_and (before q.0 r.0) (ascends (keys_of (r ∷ ps))) h in
     and_true (before q.0 r.0) _ parts.0 (ascends-push (r ∷ ps) p parts.1 after)
+
+-- a pair put last has the last key
+pub last_key-push : {A : Type 0} (ps : List (List ℕ × A)) (p : List ℕ × A) → last_key (ps ++ p ∷ []) ≡ Some p.0
+last_key-push [] p = refl
+last_key-push (q ∷ []) p = refl
+last_key-push (q ∷ r ∷ ps) p = last_key-push (r ∷ ps) p
 
 -- the last key is that of the last pair
 pub last_key-get : {A : Type 0} (ps : List (List ℕ × A)) → option_map (λ q. q.0) (slice_get ps (length ps - 1)) ≡ last_key ps

@@ -2,3 +2,11 @@ pub mod Places
 pub mod IdKept
 pub mod JidLaws
 pub mod KeyLemmas
+pub mod WriteLemmas
+pub mod LoopLemmas
+pub mod ReadLemmas
+pub mod ByteFields
+pub mod ReadBack
+pub mod RoomLemmas
+pub mod Whole
+pub mod FaultLaws

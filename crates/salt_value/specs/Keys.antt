@@ -1,5 +1,6 @@
 -- Keys, and their order by bytes.
-use Rattle.std.specs.Prelude.{◌≡◌, ℕ, Bool, true, ◌&&◌, List, [], ◌∷◌, map, Option, Some, None}
+use Rattle.std.specs.Prelude.{◌≡◌, ℕ, Bool, true, ◌&&◌, List, [], ◌∷◌, map, Option, Some, None, if◌then◌else◌}
+use Rattle.std.specs.Str.{bytes_eq}
 use Rattle.std.specs.Ordering.{nat_cmp, is_lt}
 use Rattle.std.specs.Cmp.Lexicographic.{slice_cmp}
 
@@ -31,3 +32,8 @@ last_key (p ∷ q ∷ ps) = last_key (q ∷ ps)
 abbrev pub comes_after : Option (List ℕ) → List ℕ → Bool
 comes_after None key = true
 comes_after (Some last) key = before last key
+
+-- what stands under exactly this key
+abbrev pub under : {A : Type 0} → List ℕ → List (List ℕ × A) → Option A
+under key [] = None
+under key (p ∷ ps) = if bytes_eq p.0 key then Some p.1 else under key ps

@@ -7,4 +7,11 @@ pub mod Jid
 pub mod Calendar
 pub mod Told
 pub mod Keys
+pub mod Scalar
+pub mod Child
+pub mod Spelling
+pub mod WellFormed
+pub mod Room
+pub mod Decoding
+pub mod FirstFault
 pub mod formers

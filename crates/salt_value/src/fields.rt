@@ -1,6 +1,6 @@
 ghost use Rattle.std.specs.Prelude.{◌≡◌, [], ◌∷◌, ◌++◌, length, true, OnOk, OnErr};
 ghost use Rattle.std.specs.Option.{option_copied};
-ghost use Rattle.salt_value.specs.Keys.{Ascend, keys_of, last_key, comes_after};
+ghost use Rattle.salt_value.specs.Keys.{Ascend, keys_of, last_key, comes_after, under};
 
 use crate::text::Text;
 use std::alloc::{AllocError, Global};
@@ -52,6 +52,18 @@ impl<T> Pairs<T> {
             None => None,
             Some((key, _)) => Some(key.as_bytes()),
         }
+    }
+
+    /// What stands under exactly this key.
+    pub fn get(&self, key: &[u8]) -> Option<&T>
+        ensures { option_copied result ≡ under key.now self.now }
+    {
+        for (name, value) in self.as_slice() {
+            if name.as_bytes() == key {
+                return Some(value);
+            }
+        }
+        None
     }
 
     /// Whether the key stands after all others, so that a pair with it may be pushed.

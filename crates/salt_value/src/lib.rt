@@ -1,19 +1,30 @@
-//! Ids of nodes and of jobs, words, texts and values.
+//! Ids of nodes and of jobs, words, texts and values, and values as bytes.
 #![tactic(auto)]
 
+mod bytes;
 mod copy;
+mod fault;
 mod fields;
+mod fits;
 mod id;
 mod jid;
+mod laws;
+mod outcome;
+mod reading;
 #[cfg(test)]
 mod tests;
 mod text;
 mod value;
 mod word;
+mod writing;
 
+pub use bytes::{put_text, put_u16, put_u32, put_u64, text_or, u8_or, u16_or, u32_or, u64_or};
+pub use fault::ValueFault;
 pub use fields::Pairs;
 pub use id::{IdFault, MinionId, NodeId};
 pub use jid::{Jid, JidEnd};
+pub use laws::{numbers_read_back, prefix_free, texts_read_back, values_read_back};
+pub use outcome::{Outcome, Row, Rows};
 pub use text::Text;
 pub use value::{Fields, Items, Value};
 pub use word::{Word, WordFault};

@@ -1,6 +1,7 @@
-use crate::copy;
+use crate::fault::ValueFault;
 use crate::fields::Pairs;
 use crate::text::Text;
+use crate::{copy, fits, reading, writing};
 use std::alloc::{AllocError, Global};
 
 /// A list of values, which contracts see as that list.
@@ -22,12 +23,82 @@ pub enum Value {
 }
 
 impl Value {
-    ghost use Rattle.std.specs.Prelude.{◌≡◌, IfOk};
+    ghost use Rattle.std.specs.Prelude.{◌≡◌, ◌≢◌, ◌≤◌, ◌↔◌, ◌++◌, ℕ, IsTrue, List, length, Ok, Err, IfOk, IfErr, OnOk, OnErr};
+    ghost use Rattle.std.specs.Option.{option_copied};
+    ghost use Rattle.salt_value.specs.Scalar.{scalar_text};
+    ghost use Rattle.salt_value.specs.Child.{child};
+    ghost use Rattle.salt_value.specs.Spelling.{bytes};
+    ghost use Rattle.salt_value.specs.WellFormed.{Fits};
+    ghost use Rattle.salt_value.specs.Decoding.{Answers, read_at};
+    ghost use Rattle.salt_value.specs.FirstFault.{FirstFault};
+    ghost use Rattle.salt_value.specs.declared.value.Value.{Value};
+    ghost use Rattle.salt_value.specs.declared.fault.ValueFault.{ValueFault};
 
     /// An equal value in memory of its own.
     pub fn copy(&self, alloc: Global) -> Result<Value, AllocError>
         ensures { IfOk result (λ copy. copy ≡ self.now) }
     {
         copy::copy(alloc, self)
+    }
+
+    /// The text of a scalar: `None`, `True` or `False` (as Python writes them), a number in decimal
+    /// digits with `-` in front of a negative one, or the text itself. A list and a map have none.
+    pub fn scalar_text(&self, alloc: Global) -> Result<Option<Text>, AllocError>
+        ensures { IfOk result (λ text. text ≡ scalar_text self.now) }
+    {
+        let text = match self {
+            Value::Null => String::from_str(alloc, "None")?,
+            Value::Flag(true) => String::from_str(alloc, "True")?,
+            Value::Flag(false) => String::from_str(alloc, "False")?,
+            Value::Int(number) => number.to_string(alloc)?,
+            Value::Str(text) => return Ok(Some(text.copy()?)),
+            Value::List(_) | Value::Map(_) => return Ok(None),
+        };
+        Ok(Some(Text::new(text)))
+    }
+
+    /// The value under exactly this key, lent. None where the value is no map or has no such key.
+    pub fn at(&self, key: &str) -> Option<&Value>
+        ensures { option_copied result ≡ child key.now self.now }
+    {
+        match self {
+            Value::Map(fields) => fields.get(key.as_bytes()),
+            _ => None,
+        }
+    }
+
+    /// Whether the value is within the limits, which are this project's own: its depth is at most 32,
+    /// where a scalar has depth 1, and its spelling has at most 65,536 bytes.
+    pub fn fits(&self) -> bool
+        ensures { IsTrue result ↔ Fits self.now }
+    {
+        fits::after(self, 32, 65_536).is_some()
+    }
+
+    /// Appends the spelling of a value that is within the limits. An error leaves all as it was.
+    pub fn write(&self, out: &mut Vec<u8>) -> Result<(), AllocError>
+        requires { Fits self.now }
+        ensures ok { OnOk result (out.new.items ≡ out.old.items ++ bytes self.now) }
+        ensures err { OnErr result (out.new.items ≡ out.old.items) }
+    {
+        writing::append(out, self)
+    }
+
+    /// The value that begins the input, and how many bytes it takes. Its first 65,536 bytes are looked
+    /// at, and the first fault from the left is answered.
+    pub fn read(alloc: Global, input: &[u8]) -> Result<(Value, usize), ValueFault>
+        // What is read is spelled so, and is within the limits.
+        ensures found { IfOk result (λ x. Fits x.0 × (x.1 ≡ length (bytes x.0)) × ((rest : List ℕ) × (input.now ≡ bytes x.0 ++ rest))) }
+        ensures within { IfOk result (λ x. x.1 ≤ length input.now) }
+        // What is spelled so is read, whatever follows it, unless memory runs out.
+        ensures only { (v : Value) (rest : List ℕ) → Fits v → input.now ≡ bytes v ++ rest → Answers result (Ok (v, length (bytes v))) }
+        // A fault that is answered is the first one from the left.
+        ensures fault { IfErr result (λ e. e ≢ ValueFault.NoMemory → FirstFault input.now e) }
+        // The first fault is answered, unless memory runs out.
+        ensures first { (e : ValueFault) → FirstFault input.now e → Answers result (Err e) }
+        // All of this as a function.
+        ensures exact { Answers result (read_at input.now) }
+    {
+        reading::whole(alloc, input)
     }
 }

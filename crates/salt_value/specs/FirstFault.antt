@@ -1,0 +1,83 @@
+-- The first fault from the left of bytes that begin with no value: whole parts, and then a part that has the fault.
+use Rattle.std.specs.Prelude.{◌≡◌, ◌⊎◌, ◌<◌, ◌≤◌, ◌^◌, ◌+◌, ◌-◌, nat_lt, if◌then◌else◌, ℕ, zero, suc, true, false, List, [], ◌∷◌, ◌++◌, length, take, min, map, Option}
+use Rattle.std.specs.Str.{is_utf8}
+use Rattle.std.specs.Int.{w32, to_be_bytes}
+use Rattle.salt_value.specs.declared.fault.Misread.{Misread}
+use Rattle.salt_value.specs.declared.fault.Misread.TheVariants.{NoMemory, Short, BadTag, Unsorted, NotUtf8, TooDeep}
+use Rattle.salt_value.specs.declared.value.Value.{Value}
+use Rattle.salt_value.specs.declared.fault.ValueFault.{ValueFault}
+use Rattle.salt_value.specs.declared.fault.ValueFault.TheVariants as faults
+use Rattle.salt_value.specs.Keys.{keys_of, last_key, comes_after, Ascend}
+use Rattle.salt_value.specs.Spelling.{bytes, text, joined, pairs_joined, spelled_pairs}
+use Rattle.salt_value.specs.WellFormed.{is_text, depth, greatest, AllWellFormed, PairsWellFormed}
+
+-- what fault the bytes have at their front. A place is the number of bytes from there to the end
+abbrev pub Faults : Type 1
+Faults = List ℕ → Misread → Type 0
+
+-- fewer bytes than the part has
+abbrev pub IsCut : ℕ → Faults
+IsCut size b f = (length b < size) × (f ≡ Short)
+
+-- no whole number of 32 bits, or one and a fault of what it counts
+abbrev pub Counted : (ℕ → Faults) → Faults
+Counted fault b f = IsCut 4 b f ⊎ ((n : ℕ) × (rest : List ℕ) × (n < 2 ^ 32) × (b ≡ to_be_bytes w32 n ++ rest) × fault n rest f)
+
+-- no whole text, or a whole one that is no UTF-8
+abbrev pub TextFault : Faults
+TextFault = Counted (λ n rest f. IsCut n rest f ⊎ ((n ≤ length rest) × (is_utf8 (take n rest) ≡ false) × (f ≡ NotUtf8 (length rest))))
+
+-- a key that is no text, or that doesn't stand after the key before it
+abbrev pub KeyFault : Option (List ℕ) → Faults
+KeyFault last b f = TextFault b f
+    ⊎ ((key : List ℕ) × (rest : List ℕ) × (is_text key ≡ true) × (b ≡ text key ++ rest) × (comes_after last key ≡ false) × (f ≡ Unsorted (length key + length rest)))
+
+-- of values whose members may have d levels and have such a fault
+module _ (d : ℕ) (fault : Faults) where
+  -- in a list: some whole members, fewer than the count, and then one with a fault
+  abbrev pub ItemsFault : ℕ → Faults
+  ItemsFault n b f = (done : List Value) × (rest : List ℕ) × (length done < n) × AllWellFormed done × (greatest (map depth done) ≤ d) × (b ≡ joined (map bytes done) ++ rest) × fault rest f
+
+  -- in a pair: no level for the value, a fault of the key, or a whole key and a fault of the value
+  abbrev pub PairFault : Option (List ℕ) → Faults
+  PairFault last b f = ((d ≡ 0) × (f ≡ TooDeep))
+      ⊎ ((0 < d) × (KeyFault last b f ⊎ ((key : List ℕ) × (rest : List ℕ) × (is_text key ≡ true) × (comes_after last key ≡ true) × (b ≡ text key ++ rest) × fault rest f)))
+
+  -- in a map: some whole pairs in order, fewer than the count, and then one with a fault
+  abbrev pub PairsFault : ℕ → Faults
+  PairsFault n b f = (done : List (List ℕ × Value)) × (rest : List ℕ) × (length done < n) × PairsWellFormed done × Ascend (keys_of done)
+      × (greatest (map (λ (p : List ℕ × Value). depth p.1) done) ≤ d) × (b ≡ pairs_joined (spelled_pairs done) ++ rest) × PairFault (last_key done) rest f
+
+  -- after a tag, by cases on the tag
+  abbrev pub TaggedFault : ℕ → Faults
+  TaggedFault zero b f = ⊥
+  TaggedFault (suc zero) b f = ⊥
+  TaggedFault (suc (suc zero)) b f = ⊥
+  TaggedFault (suc (suc (suc zero))) b f = IsCut 8 b f
+  TaggedFault (suc (suc (suc (suc zero)))) b f = TextFault b f
+  TaggedFault (suc (suc (suc (suc (suc zero))))) b f = Counted ItemsFault b f
+  TaggedFault (suc (suc (suc (suc (suc (suc zero)))))) b f = Counted PairsFault b f
+  TaggedFault (suc (suc (suc (suc (suc (suc (suc t))))))) b f = f ≡ BadTag (suc (length b))
+
+-- in a value that may have so many levels
+unfoldable pub ValueFaults : ℕ → Faults
+ValueFaults zero b f = f ≡ TooDeep
+ValueFaults (suc d) [] f = f ≡ Short
+ValueFaults (suc d) (tag ∷ b) f = TaggedFault d (ValueFaults d) tag b f
+
+-- the bytes of the longest value
+abbrev pub most_bytes : ℕ
+most_bytes = 65536
+
+-- a fault of an input of n bytes, of which so many were looked at, by its place from the front
+abbrev pub placed : ℕ → ℕ → Misread → ValueFault
+placed n seen NoMemory = faults.NoMemory
+placed n seen Short = if nat_lt n most_bytes then faults.Short else faults.TooLarge
+placed n seen (BadTag left) = faults.BadTag (seen - left)
+placed n seen (Unsorted left) = faults.Unsorted (seen - left)
+placed n seen (NotUtf8 left) = faults.NotUtf8 (seen - left)
+placed n seen TooDeep = faults.TooDeep
+
+-- the first fault of an input, of which the first 65,536 bytes alone are looked at
+abbrev pub FirstFault : List ℕ → ValueFault → Type 0
+FirstFault input e = (f : Misread) × ValueFaults 32 (take most_bytes input) f × (e ≡ placed (length input) (min (length input) most_bytes) f)

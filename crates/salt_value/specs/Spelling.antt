@@ -1,0 +1,37 @@
+-- The one spelling of each value as bytes, by cases on the value.
+use Rattle.std.specs.Prelude.{ℕ, true, false, List, [], ◌∷◌, ◌++◌, length, map}
+use Rattle.std.specs.Int.{w32, w64, to_be_bytes, cast_unsigned}
+use Rattle.salt_value.specs.declared.value.Value.{Value, fold-Value}
+use Rattle.salt_value.specs.declared.value.Value.TheOpen.{Value-F}
+
+-- the four bytes of a length, and the text's bytes
+abbrev pub text : List ℕ → List ℕ
+text t = to_be_bytes w32 (length t) ++ t
+
+-- one spelling after the other
+abbrev pub joined : List (List ℕ) → List ℕ
+joined [] = []
+joined (x ∷ xs) = x ++ joined xs
+
+-- for each pair its key as a text, and then the value's bytes
+abbrev pub pairs_joined : List (List ℕ × List ℕ) → List ℕ
+pairs_joined [] = []
+pairs_joined (p ∷ ps) = text p.0 ++ (p.1 ++ pairs_joined ps)
+
+-- one layer of a value, with the bytes of each member in the member's place
+abbrev pub spelling_layer : Value-F (List ℕ) → List ℕ
+spelling_layer Value-F.Null = 0 ∷ []
+spelling_layer (Value-F.Flag false) = 1 ∷ []
+spelling_layer (Value-F.Flag true) = 2 ∷ []
+spelling_layer (Value-F.Int z) = 3 ∷ to_be_bytes w64 (cast_unsigned w64 z)
+spelling_layer (Value-F.Str t) = 4 ∷ text t
+spelling_layer (Value-F.List xs) = 5 ∷ (to_be_bytes w32 (length xs) ++ joined xs)
+spelling_layer (Value-F.Map ps) = 6 ∷ (to_be_bytes w32 (length ps) ++ pairs_joined ps)
+
+-- the spelling of a value
+abbrev pub bytes : Value → List ℕ
+bytes = fold-Value (List ℕ) spelling_layer
+
+-- pairs with the bytes of each value in the value's place
+abbrev pub spelled_pairs : List (List ℕ × Value) → List (List ℕ × List ℕ)
+spelled_pairs ps = map (λ p. (p.0, bytes p.1)) ps

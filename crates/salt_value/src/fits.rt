@@ -1,0 +1,96 @@
+// Whether a value is within the limits of its bytes.
+ghost use Rattle.std.specs.Prelude.{◌≡◌, ◌≤◌, ◌+◌, ◌++◌, ◌&&◌, true, length, map};
+ghost use Rattle.salt_value.specs.Spelling as spelling;
+ghost use Rattle.salt_value.specs.Spelling.{bytes, joined, pairs_joined, spelled_pairs};
+ghost use Rattle.salt_value.specs.WellFormed.{IsWellFormed, AllWellFormed, PairsWellFormed, is_int, is_text, well_formed, depth, greatest};
+ghost use Rattle.salt_value.specs.Room.{Leaves};
+
+use crate::text::Text;
+use crate::value::Value;
+
+// The room that is left after the bytes of a number.
+fn after_int(number: i64, room: usize) -> Option<usize>
+    ensures { Leaves (is_int number ≡ true) 0 0 8 room result }
+{
+    room.checked_sub(number.to_be_bytes().len())
+}
+
+// The room that is left after a text.
+fn after_text(text: &str, room: usize) -> Option<usize>
+    requires { room ≤ 65536 }
+    ensures { Leaves (is_text text.now ≡ true) 0 0 (length (spelling.text text.now)) room result }
+{
+    if room < 4 {
+        return None;
+    }
+    (room - 4).checked_sub(text.len())
+}
+
+// The room that is left after a value that may have so many levels.
+#[cycle(fits)]
+pub fn after(value: &Value, levels: usize, room: usize) -> Option<usize>
+    requires { room ≤ 65536 }
+    ensures { Leaves (IsWellFormed value.now) (depth value.now) levels (length (bytes value.now)) room result }
+{
+    if levels == 0 || room == 0 {
+        return None;
+    }
+    match value {
+        Value::Null => Some(room - 1),
+        Value::Flag(_) => Some(room - 1),
+        Value::Int(number) => after_int(*number, room - 1),
+        Value::Str(text) => after_text(text.as_str(), room - 1),
+        Value::List(items) => after_items(items.as_slice(), levels - 1, room),
+        Value::Map(fields) => after_pairs(fields.as_slice(), levels - 1, room),
+    }
+}
+
+// The room that is left after a tag, a count and these values.
+#[cycle(fits)]
+fn after_items(items: &[Value], levels: usize, room: usize) -> Option<usize>
+    requires { room ≤ 65536 }
+    ensures { Leaves (AllWellFormed items.now) (greatest (map depth items.now)) levels (5 + length (joined (map bytes items.now))) room result }
+{
+    if room < 5 {
+        return None;
+    }
+    let mut left = room - 5;
+    for item in items {
+        let Some(rest) = after(item, levels, left) else {
+            return None;
+        };
+        left = rest;
+    }
+    Some(left)
+}
+
+// The room that is left after a key and its value.
+#[cycle(fits)]
+fn after_pair(key: &str, value: &Value, levels: usize, room: usize) -> Option<usize>
+    requires { room ≤ 65536 }
+    ensures { Leaves ((is_text key.now && well_formed value.now) ≡ true) (depth value.now) levels (length (spelling.text key.now ++ bytes value.now)) room result }
+{
+    let Some(rest) = after_text(key, room) else {
+        return None;
+    };
+    after(value, levels, rest)
+}
+
+// The room that is left after a tag, a count and these pairs.
+#[cycle(fits)]
+fn after_pairs(pairs: &[(Text, Value)], levels: usize, room: usize) -> Option<usize>
+    requires { room ≤ 65536 }
+    ensures { Leaves (PairsWellFormed pairs.now) (greatest (map (λ p. depth p.1) pairs.now)) levels (5 + length (pairs_joined (spelled_pairs pairs.now))) room result }
+{
+    if room < 5 {
+        return None;
+    }
+    let mut left = room - 5;
+    for (key, value) in pairs {
+        let Some(rest) = after_pair(key.as_str(), value, levels, left) else {
+            return None;
+        };
+        left = rest;
+    }
+    Some(left)
+}
