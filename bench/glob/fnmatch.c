@@ -1,5 +1,5 @@
 /* The same patterns and texts as in main.rust, matched by fnmatch. */
-#define _POSIX_C_SOURCE 200809L
+#define _GNU_SOURCE
 #include <fnmatch.h>
 #include <stdio.h>
 #include <string.h>
@@ -12,14 +12,14 @@ static const char *const TEXTS[8] = {
 
 static char many[65537];
 
-static void usual(const char *pattern) {
+static void usual(const char *pattern, int flags) {
     struct timespec from, to;
     long held = 0;
     clock_gettime(CLOCK_MONOTONIC, &from);
     /* the next text hangs on the last answer, so that no answer is taken for another */
     unsigned next = 0;
     for (long i = 0; i < 2000000; i++) {
-        if (fnmatch(pattern, TEXTS[next % 8], 0) == 0) {
+        if (fnmatch(pattern, TEXTS[next % 8], flags) == 0) {
             held++;
             next = next % 8 + 1;
         } else {
@@ -28,7 +28,7 @@ static void usual(const char *pattern) {
     }
     clock_gettime(CLOCK_MONOTONIC, &to);
     long long nanos = (to.tv_sec - from.tv_sec) * 1000000000LL + (to.tv_nsec - from.tv_nsec);
-    printf("%s: %ld held, %lld ns each\n", pattern, held, nanos / 2000000);
+    printf("%s%s: %ld held, %lld ns each\n", flags ? "caseless " : "", pattern, held, nanos / 2000000);
 }
 
 static void worst(const char *pattern) {
@@ -42,13 +42,18 @@ static void worst(const char *pattern) {
 
 int main(void) {
     memset(many, 'a', 65536);
-    usual("*");
-    usual("web*");
-    usual("*.example.net");
-    usual("web-[0-9][0-9].*");
-    usual("*-0?.example.*");
-    usual("m1");
+    usual("*", 0);
+    usual("web*", 0);
+    usual("*.example.net", 0);
+    usual("web-[0-9][0-9].*", 0);
+    usual("*-0?.example.*", 0);
+    usual("m1", 0);
+    usual("WEB*", FNM_CASEFOLD);
+    usual("*.Example.NET", FNM_CASEFOLD);
+    usual("Web-[0-9][0-9].*", FNM_CASEFOLD);
+    usual("M1", FNM_CASEFOLD);
     worst("*b");
+    worst("*ab");
     worst("*a*a*a*b");
     worst("*[[[[[[[[b");
     return 0;

@@ -8,7 +8,7 @@ work=$(mktemp -d)
 trap 'rm -rf "$work"' EXIT
 mkdir -p "$work/crates/glob_bench/src" "$work/crates/glob_bench/specs" "$work/crates/glob_bench/proofs"
 cp -r "$top/crates/salt_glob" "$work/crates/salt_glob"
-printf 'salt_glob:\nglob_bench: salt_glob\n' > "$work/crates.txt"
+printf 'salt_glob: memchr\nglob_bench: salt_glob\n' > "$work/crates.txt"
 cp "$top/bench/glob/main.rust" "$work/crates/glob_bench/src/main.rt"
 cp "$top/bench/glob/fnmatch.c" "$work/fnmatch.c"
 cc -O2 -o "$work/fnmatch" "$work/fnmatch.c"

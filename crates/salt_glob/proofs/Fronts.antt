@@ -1,9 +1,9 @@
 -- The front of a pattern.
-use Rattle.std.proofs.Common.{◌≡◌, ◌≢◌, ◌↔◌, ℕ, ◌==◌, Bool, true, false, List, [], ◌∷◌, ◌++◌, drop, refl, sym, ap, ◌∙◌, subst, arith}
-use Rattle.std.specs.Prelude.{if◌then◌else◌, Option, None, Some, IsTrue}
+use Rattle.std.proofs.Common.{◌≡◌, ◌≢◌, ℕ, ◌==◌, Bool, true, false, List, ◌∷◌, drop, refl, sym, ap, ◌∙◌, subst, arith}
+use Rattle.std.specs.Prelude.{if◌then◌else◌, Option, None, Some}
 use Rattle.std.proofs.lemmas.Bool.Decides.{nat_tests}
-use Rattle.salt_glob.specs.Classes.{Class, class_of, class_size, in_class}
-use Rattle.salt_glob.specs.Globs.{Piece, star, any, set, plain, opened, piece, more, pieces_after, pieces, Hold, Glob}
+use Rattle.salt_glob.specs.Classes.{Class, class_of, class_size}
+use Rattle.salt_glob.specs.Globs.{Piece, star, any, set, plain, opened, piece, more, pieces_after, pieces, Hold}
 use Rattle.salt_glob.specs.Fronts.{Takes, IsByFront}
 use Rattle.salt_glob.proofs.Pieces.{pieces_after-drop}
 
@@ -25,7 +25,7 @@ plain_of false true c x o e f g = absurd cc
 plain_of false false true x o e f g = absurd cc
 plain_of false false false x o e f g = refl
 
-other_piece : (x : ℕ) (rest : List ℕ) → x ≢ 42 → x ≢ 63 → x ≢ 91 → piece x rest ≡ plain x
+pub other_piece : (x : ℕ) (rest : List ℕ) → x ≢ 42 → x ≢ 63 → x ≢ 91 → piece x rest ≡ plain x
 other_piece x rest s q c =
     plain_of (x == 42) (x == 63) (x == 91) x (class_of rest) (not_same x 42 s) (not_same x 63 q) (not_same x 91 c)
 

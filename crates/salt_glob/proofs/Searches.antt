@@ -13,6 +13,7 @@ pub record Search (xs ts : List ℕ) (after from after' from' p t : ℕ) : Type 
   pub within : t ≤ length ts
   pub place : after' ≤ p
   pub bound : p ≤ length xs
+  pub inner : after' < length xs
   pub sound : HoldAt xs ts p t → HoldLater xs ts after from
   pub later : (u : ℕ) → from' < u → HoldAt xs ts after' u → HoldLater xs ts after from
   pub complete : HoldLater xs ts after from → HoldAt xs ts p t ⊎ ((u : ℕ) × (from' < u) × HoldAt xs ts after' u)
@@ -45,12 +46,13 @@ now_or_later : (xs ts : List ℕ) (p t u : ℕ) → t ≤ u → HoldAt xs ts p u
 now_or_later xs ts p t u le h =
     elim (cases_lt t u) [ inl lt ↦ inr (u, lt, h) | inr ge ↦ inl (moved xs ts p u t (omega arith) h) ]
 
-pub search_begin : (xs ts : List ℕ) (after from : ℕ) → after ≤ length xs → from ≤ length ts → Search xs ts after from after from after from
+pub search_begin : (xs ts : List ℕ) (after from : ℕ) → after < length xs → from ≤ length ts → Search xs ts after from after from after from
 search_begin xs ts after from a f = record {
   last = omega arith;
   within = f;
   place = omega arith;
-  bound = a;
+  bound = omega arith;
+  inner = a;
   sound = λ h. (from, omega arith, h);
   later = λ u lt h. (u, omega arith, h);
   complete = λ g. now_or_later xs ts after from g.0 g.1 g.2;
@@ -69,13 +71,14 @@ pub later_star : (xs ts : List ℕ) (p t : ℕ) → p < length xs → get_or xs 
 later_star xs ts p t h e g =
     subst (λ (ps : List Piece). Hold ps (drop t ts)) (sym (star_pieces xs p h e)) (hold_star (pieces (drop (p + 1) xs)) ts t g.0 g.1 g.2)
 
-pub search_star : (xs ts : List ℕ) (after from after' from' p t : ℕ) → p < length xs → get_or xs p 0 ≡ 42
+pub search_star : (xs ts : List ℕ) (after from after' from' p t : ℕ) → p + 1 < length xs → get_or xs p 0 ≡ 42
     → Search xs ts after from after' from' p t → Search xs ts after from (p + 1) t (p + 1) t
-search_star xs ts after from after' from' p t h e s = record {
+search_star xs ts after from after' from' p t k e s = let h : p < length xs = omega arith in record {
   last = omega arith;
   within = s.within;
   place = omega arith;
   bound = omega arith;
+  inner = k;
   sound = λ g. s.sound (later_star xs ts p t h e (t, omega arith, g));
   later = λ u lt g. s.sound (later_star xs ts p t h e (u, omega arith, g));
   complete = λ g. elim (s.complete g) [
@@ -117,6 +120,7 @@ search_one xs ts after from after' from' p t n h k e w s =
       within = omega arith;
       place = omega arith;
       bound = w;
+      inner = s.inner;
       sound = λ g. s.sound (one_back xs ts p t n h k e g);
       later = s.later;
       complete = λ g. elim (s.complete g) [ inl here ↦ inl (one_forth xs ts p t n (get_or ts t 0) h e here) | inr v ↦ inr v ];
@@ -143,6 +147,7 @@ search_none xs ts after from after' from' p t k none s =
       within = omega arith;
       place = omega arith;
       bound = omega arith;
+      inner = s.inner;
       sound = λ g. s.later (from' + 1) (omega arith) g;
       later = λ u lt g. s.later u (omega arith) g;
       complete = λ g. elim (s.complete g) [
@@ -151,6 +156,40 @@ search_none xs ts after from after' from' p t k none s =
       ];
       shift = λ u g. moved xs ts after' u (u + (from' + 1 - (from' + 1))) (omega arith) g;
     }
+
+-- up to a later place nothing holds after the last `*`
+pub search_skip : (xs ts : List ℕ) (after from a f u : ℕ) → f ≤ u → u ≤ length ts → ((v : ℕ) → f ≤ v → v < u → HoldAt xs ts a v → ⊥)
+    → Search xs ts after from a f a f → Search xs ts after from a u a u
+search_skip xs ts after from a f u le within none s = record {
+  last = omega arith;
+  within = within;
+  place = omega arith;
+  bound = s.bound;
+  inner = s.inner;
+  sound = λ g. at_start (cases_lt f u) g;
+  later = λ v lt g. s.later v (omega arith) g;
+  complete = λ g. elim (s.complete g) [
+    | inl here ↦ later f (omega arith) here (cases_lt f u)
+    | inr w ↦ later w.0 (below w.1) w.2 (cases_lt w.0 u)
+  ];
+  shift = λ v g. moved xs ts a v (v + (u - u)) (omega arith) g;
+} where
+  below : {m n : ℕ} → m < n → m ≤ n
+  below h = omega arith
+
+  at_start : ((f < u) ⊎ (u ≤ f)) → HoldAt xs ts a u → HoldLater xs ts after from
+  at_start (inl lt) g = s.later u lt g
+  at_start (inr ge) g = let e : u ≡ f = omega arith in s.sound (moved xs ts a u f e g)
+
+  later : (w : ℕ) → f ≤ w → HoldAt xs ts a w → ((w < u) ⊎ (u ≤ w)) → HoldAt xs ts a u ⊎ ((v : ℕ) × (u < v) × HoldAt xs ts a v)
+  later w h g (inl lt) = absurd (none w h lt g)
+  later w h g (inr ge) = now_or_later xs ts a u w ge g
+
+-- nothing holds after the last `*` at all
+pub search_stop : (xs ts : List ℕ) (after from a f : ℕ) → ((v : ℕ) → f ≤ v → HoldAt xs ts a v → ⊥) → Search xs ts after from a f a f → HoldLater xs ts after from → ⊥
+search_stop xs ts after from a f none s g = elim (s.complete g) [ inl here ↦ none f (omega arith) here | inr w ↦ none w.0 (below w.1) w.2 ] where
+  below : {m n : ℕ} → m < n → m ≤ n
+  below h = omega arith
 
 -- at the end of the text
 ended : (xs ts : List ℕ) (p u : ℕ) → length ts ≤ u → HoldAt xs ts p u → Glob (drop p xs) []
@@ -172,6 +211,6 @@ pub all_later : (xs ts : List ℕ) (after from : ℕ) → length xs ≤ after �
 all_later xs ts after from k h =
     (length ts, h, subst (λ (ys : List ℕ). Glob ys (drop (length ts) ts)) (sym (drop_of_length-le xs k)) (drop_of_length-le ts (omega arith)))
 
-pub search_all : (xs ts : List ℕ) (after from p t : ℕ) → t < length ts → length xs ≤ p → Search xs ts after from p t p t → HoldLater xs ts after from
-search_all xs ts after from p t h k s =
-    s.later (length ts) h (subst (λ (ys : List ℕ). Glob ys (drop (length ts) ts)) (sym (drop_of_length-le xs k)) (drop_of_length-le ts (omega arith)))
+pub search_all : (xs ts : List ℕ) (after from after' from' p t : ℕ) → p < length xs → get_or xs p 0 ≡ 42 → length xs ≤ p + 1
+    → Search xs ts after from after' from' p t → HoldLater xs ts after from
+search_all xs ts after from after' from' p t h e k s = s.sound (later_star xs ts p t h e (all_later xs ts (p + 1) t k s.within))

@@ -1,3 +1,4 @@
 pub mod Classes
 pub mod Globs
 pub mod Fronts
+pub mod Lowered

@@ -4,6 +4,8 @@ ghost use Rattle.std.specs.List.{list_any};
 ghost use Rattle.std.specs.Option.{option_map};
 ghost use Rattle.salt_glob.specs.Classes as spec;
 
+use crate::folded::Folded;
+
 /// A class by its places in a pattern: its members stand from `first` to `end`, and its `]` at `end`.
 #[derive(Clone, Copy)]
 pub struct Class {
@@ -12,28 +14,8 @@ pub struct Class {
     pub end: usize,
 }
 
-/// The place after the last `]`, or 0. With it a class that nothing closes is told without a search.
-pub fn after_last_close(pattern: &[u8]) -> usize
-    ensures closes { (k : ℕ) → list_any (λ b. b == 93) (drop k pattern.now) ≡ nat_lt k result }
-    ensures bound { result ≤ length pattern.now }
-{
-    let mut last = 0;
-    for (i, b) in pattern.iter().enumerate() {
-        if *b == b']' {
-            last = i + 1;
-        }
-    }
-    last
-}
-
-fn first_close(rest: &[u8]) -> Option<usize>
-    ensures { result ≡ position (λ b. b == 93) rest.now }
-{
-    rest.iter().position(|b| *b == b']')
-}
-
 /// The class whose first member stands at a place, if a `]` closes it.
-fn closed_at(pattern: &[u8], negated: bool, first: usize, last: usize) -> Option<Class>
+fn closed_at(pattern: &Folded, negated: bool, first: usize, last: usize) -> Option<Class>
     requires bound { last ≤ length pattern.now }
     requires closes { (k : ℕ) → list_any (λ b. b == 93) (drop k pattern.now) ≡ nat_lt k last }
     ensures value { option_map (spec.class_in pattern.now) result ≡ spec.closed negated (drop first pattern.now) }
@@ -45,7 +27,7 @@ fn closed_at(pattern: &[u8], negated: bool, first: usize, last: usize) -> Option
     if first > last - 2 {
         return None;
     }
-    match first_close(pattern.split_at(first + 1).1) {
+    match pattern.first_close(first + 1) {
         None => None,
         Some(n) => Some(Class {
             negated,
@@ -56,14 +38,14 @@ fn closed_at(pattern: &[u8], negated: bool, first: usize, last: usize) -> Option
 }
 
 /// The class that a `[` opens before a place, if a `]` closes it.
-pub fn class_at(pattern: &[u8], from: usize, last: usize) -> Option<Class>
+pub fn class_at(pattern: &Folded, from: usize, last: usize) -> Option<Class>
     requires from { from ≤ length pattern.now }
     requires bound { last ≤ length pattern.now }
     requires closes { (k : ℕ) → list_any (λ b. b == 93) (drop k pattern.now) ≡ nat_lt k last }
     ensures value { option_map (spec.class_in pattern.now) result ≡ spec.class_of (drop from pattern.now) }
     ensures places { IfSome result (λ c. (from ≤ c.first) × (c.first < c.end) × (c.end < length pattern.now) × (c.end + 1 ≡ from + spec.class_size (spec.class_in pattern.now c))) }
 {
-    if from < pattern.len() && pattern[from] == b'!' {
+    if from < pattern.len() && pattern.at(from) == b'!' {
         closed_at(pattern, true, from + 1, last)
     } else {
         closed_at(pattern, false, from, last)
@@ -71,24 +53,24 @@ pub fn class_at(pattern: &[u8], from: usize, last: usize) -> Option<Class>
 }
 
 // Whether a range begins at a place of the members.
-fn is_range(members: &[u8], at: usize) -> bool
+fn is_range(members: &Folded, at: usize) -> bool
     requires { at < length members.now }
     ensures { IsTrue result ↔ ((at + 2 < length members.now) × (slice_index members.now (at + 1) ≡ 45)) }
 {
-    members.len() - at > 2 && members[at + 1] == b'-'
+    members.len() - at > 2 && members.at(at + 1) == b'-'
 }
 
 // Whether the member or range at a place has the byte, and how many bytes it takes.
-fn front(members: &[u8], at: usize, byte: u8) -> (bool, usize)
+fn front(members: &Folded, at: usize, byte: u8) -> (bool, usize)
     requires { at < length members.now }
     ensures value { spec.is_member byte (drop at members.now) ≡ (result.0 || spec.is_member byte (drop (at + result.1) members.now)) }
     ensures some { 0 < result.1 }
     ensures within { at + result.1 ≤ length members.now }
 {
     if is_range(members, at) {
-        (is_between(members[at], members[at + 2], byte), 3)
+        (is_between(members.at(at), members.at(at + 2), byte), 3)
     } else {
-        (byte == members[at], 1)
+        (byte == members.at(at), 1)
     }
 }
 
@@ -99,7 +81,7 @@ fn is_between(low: u8, high: u8, byte: u8) -> bool
 }
 
 /// Whether the byte is one of the members.
-pub fn is_member(members: &[u8], byte: u8) -> bool
+pub fn is_member(members: &Folded, byte: u8) -> bool
     ensures { result ≡ spec.is_member byte members.now }
 {
     let mut i = 0;

@@ -3,10 +3,11 @@
 #![tactic(auto)]
 
 mod class;
+mod folded;
 mod law;
 mod matching;
 #[cfg(test)]
 mod tests;
 
 pub use law::globs_go_by_the_front;
-pub use matching::glob;
+pub use matching::{glob, glob_caseless};

@@ -2,19 +2,21 @@
 ghost use Rattle.std.specs.Prelude.{◌≡◌, ◌≤◌, ◌<◌, ◌+◌, ◌==◌, None, Some, IfSome, IfNone, ◌↔◌, ℕ, nat_lt, [], length, drop, slice_index, IsTrue};
 ghost use Rattle.std.specs.List.{list_any, list_all};
 ghost use Rattle.salt_glob.specs.Globs as spec;
+ghost use Rattle.salt_glob.specs.Lowered.{lowered, glob_caseless};
 
-use crate::class::{after_last_close, class_at, is_member};
+use crate::class::{class_at, is_member};
+use crate::folded::Folded;
 
 /// How many bytes of the pattern the piece at a place has, if it takes the byte.
 #[inline(always)]
-fn taken(pattern: &[u8], at: usize, last: usize, byte: u8) -> Option<usize>
+fn taken(pattern: &Folded, at: usize, last: usize, byte: u8) -> Option<usize>
     requires at { at < length pattern.now }
     requires bound { last ≤ length pattern.now }
     requires closes { (k : ℕ) → list_any (λ b. b == 93) (drop k pattern.now) ≡ nat_lt k last }
     ensures value { result ≡ spec.taken_by (spec.piece_at pattern.now at) byte }
     ensures within { IfSome result (λ n. at + n ≤ length pattern.now) }
 {
-    let front = pattern[at];
+    let front = pattern.at(at);
     if front == b'*' {
         return None;
     }
@@ -23,8 +25,8 @@ fn taken(pattern: &[u8], at: usize, last: usize, byte: u8) -> Option<usize>
     }
     if front == b'[' {
         if let Some(class) = class_at(pattern, at + 1, last) {
-            let members = &pattern[class.first..class.end];
-            return if is_member(members, byte) != class.negated {
+            let members = pattern.part(class.first, class.end);
+            return if is_member(&members, byte) != class.negated {
                 Some(class.end + 1 - at)
             } else {
                 None
@@ -36,7 +38,7 @@ fn taken(pattern: &[u8], at: usize, last: usize, byte: u8) -> Option<usize>
 
 /// The same, and nothing at the end of the pattern.
 #[inline(always)]
-fn taken_or_end(pattern: &[u8], at: usize, last: usize, byte: u8) -> Option<usize>
+fn taken_or_end(pattern: &Folded, at: usize, last: usize, byte: u8) -> Option<usize>
     requires bound { last ≤ length pattern.now }
     requires closes { (k : ℕ) → list_any (λ b. b == 93) (drop k pattern.now) ≡ nat_lt k last }
     ensures some { IfSome result (λ n. (at < length pattern.now) × (spec.taken_by (spec.piece_at pattern.now at) byte ≡ Some n) × (at + n ≤ length pattern.now)) }
@@ -49,23 +51,44 @@ fn taken_or_end(pattern: &[u8], at: usize, last: usize, byte: u8) -> Option<usiz
     }
 }
 
-fn only_stars(pattern: &[u8]) -> bool
-    ensures { result ≡ list_all (λ b. b == 42) pattern.now }
+/// Whether the pattern from a place on holds for the empty text: each of its bytes is a `*`.
+fn are_stars(pattern: &Folded, from: usize) -> bool
+    requires { from ≤ length pattern.now }
+    ensures { IsTrue result ↔ spec.Glob (drop from pattern.now) [] }
 {
-    pattern.iter().all(|b| *b == b'*')
+    pattern.are_stars(from)
 }
 
-/// Whether a pattern holds for the empty text: each of its bytes is a `*`.
-fn are_stars(pattern: &[u8]) -> bool
-    ensures { IsTrue result ↔ spec.Glob pattern.now [] }
+/// A place of the text from which on what stands after a `*` may hold, and before which it doesn't, from a place on;
+/// None where it holds nowhere.
+#[inline(always)]
+fn next_start(pattern: &Folded, text: &Folded, after: usize, from: usize) -> Option<usize>
+    requires after { after < length pattern.now }
+    requires from { from ≤ length text.now }
+    ensures some { IfSome result (λ n. (from ≤ n) × (n ≤ length text.now) × ((u : ℕ) → from ≤ u → u < n → spec.HoldAt pattern.now text.now after u → ⊥)) }
+    ensures none { IfNone result ((u : ℕ) → from ≤ u → spec.HoldAt pattern.now text.now after u → ⊥) }
 {
-    only_stars(pattern)
+    let byte = pattern.at(after);
+    if byte == b'*' {
+        return Some(from);
+    }
+    if byte == b'?' {
+        return Some(from);
+    }
+    if byte == b'[' {
+        return Some(from);
+    }
+    if from < text.len() && text.at(from) == byte {
+        return Some(from);
+    }
+    text.place_of(byte, from)
 }
 
 /// Whether what stands after a `*` holds for the text from a place on, or from a later one on.
 /// Only the last `*` is gone back to: what stands between two of them may be held as early as it can be.
 /// So it takes at most as many steps as the pattern has bytes for each byte of the text.
-fn after_star(pattern: &[u8], text: &[u8], last: usize, after: usize, from: usize) -> bool
+#[inline(always)]
+fn after_star(pattern: &Folded, text: &Folded, last: usize, after: usize, from: usize) -> bool
     requires after { after ≤ length pattern.now }
     requires from { from ≤ length text.now }
     requires bound { last ≤ length pattern.now }
@@ -75,45 +98,56 @@ fn after_star(pattern: &[u8], text: &[u8], last: usize, after: usize, from: usiz
     if after == pattern.len() {
         return true;
     }
-    let (mut after_star, mut from_star) = (after, from);
-    let (mut p, mut t) = (after, from);
+    let Some(first) = next_start(pattern, text, after, from) else {
+        return false;
+    };
+    let (mut after_star, mut from_star) = (after, first);
+    let (mut p, mut t) = (after, first);
     while t < text.len() {
         if is_star(pattern, p) {
             p += 1;
-            after_star = p;
-            from_star = t;
             if p == pattern.len() {
                 return true;
             }
+            let Some(start) = next_start(pattern, text, p, t) else {
+                return false;
+            };
+            after_star = p;
+            from_star = start;
+            t = start;
         } else {
-            match taken_or_end(pattern, p, last, text[t]) {
+            match taken_or_end(pattern, p, last, text.at(t)) {
                 Some(n) => {
                     p += n;
                     t += 1;
                 }
                 None => {
-                    from_star += 1;
+                    let Some(start) = next_start(pattern, text, after_star, from_star + 1) else {
+                        return false;
+                    };
+                    from_star = start;
                     p = after_star;
-                    t = from_star;
+                    t = start;
                 }
             }
         }
     }
-    are_stars(pattern.split_at(p).1)
+    are_stars(pattern, p)
 }
 
 #[inline(always)]
-fn is_star(pattern: &[u8], at: usize) -> bool
+fn is_star(pattern: &Folded, at: usize) -> bool
     ensures { IsTrue result ↔ ((at < length pattern.now) × (slice_index pattern.now at ≡ 42)) }
 {
-    at < pattern.len() && pattern[at] == b'*'
+    at < pattern.len() && pattern.at(at) == b'*'
 }
 
 // Whether the pattern holds for the whole text: up to the first `*` without a way back.
-fn holds(pattern: &[u8], text: &[u8]) -> bool
+#[inline(always)]
+fn holds(pattern: &Folded, text: &Folded) -> bool
     ensures { IsTrue result ↔ spec.Glob pattern.now text.now }
 {
-    let last = after_last_close(pattern);
+    let last = pattern.after_last_close();
     let (mut p, mut t) = (0, 0);
     while p < pattern.len() {
         if is_star(pattern, p) {
@@ -122,7 +156,7 @@ fn holds(pattern: &[u8], text: &[u8]) -> bool
         if t == text.len() {
             return false;
         }
-        match taken(pattern, p, last, text[t]) {
+        match taken(pattern, p, last, text.at(t)) {
             Some(n) => {
                 p += n;
                 t += 1;
@@ -141,5 +175,14 @@ pub fn glob(pattern: &[u8], text: &[u8]) -> bool
     ensures relation { IsTrue result ↔ spec.Glob pattern.now text.now }
     ensures value { result ≡ spec.glob pattern.now text.now }
 {
-    holds(pattern, text)
+    holds(&Folded::exact(pattern), &Folded::exact(text))
+}
+
+/// `glob` with `A` to `Z` lowered in the pattern and in the text, also where they bound a range of a class: `[A-z]` has the
+/// bytes from `a` to `z`, and `[Z-a]` has none. It takes no memory, and at most as many steps as `glob`.
+pub fn glob_caseless(pattern: &[u8], text: &[u8]) -> bool
+    ensures relation { IsTrue result ↔ spec.Glob (lowered pattern.now) (lowered text.now) }
+    ensures value { result ≡ glob_caseless pattern.now text.now }
+{
+    holds(&Folded::caseless(pattern), &Folded::caseless(text))
 }

@@ -1,6 +1,9 @@
-use Rattle.salt_glob.specs.Globs.{pieces}
+use Rattle.std.proofs.Common.{ap, ◌∙◌}
+use Rattle.salt_glob.specs.Globs.{pieces, glob}
 use Rattle.salt_glob.proofs.Pieces.{told_held}
 use Rattle.salt_glob.proofs.matching.glob.Goals as goal
 
 pub returns-clause-value : goal.returns-clause-value
-returns-clause-value c = told_held c.holds.result (pieces c.args.pattern.now) c.args.text.now c.holds.ensures.0 c.holds.ensures.1
+returns-clause-value c =
+    told_held c.holds.result (pieces c.exact.result) c.exact-2.result c.holds.ensures.0 c.holds.ensures.1
+    ∙ ap (λ p. glob p c.exact-2.result) c.exact.ensures ∙ ap (glob c.args.pattern.now) c.exact-2.ensures
