@@ -1,0 +1,4 @@
+pub mod Readings
+pub mod FrontLemmas
+pub mod FeedLemmas
+pub mod RunLemmas

@@ -1,0 +1,32 @@
+-- What a buffer holds of a stream, and what each call makes of it.
+use Rattle.std.specs.Prelude.{◌≡◌, ℕ, List, ◌++◌, Option, Some, None, refl}
+use Rattle.std.specs.Int.{w32, to_be_bytes}
+use Rattle.std.specs.Coded.{Coded, code_by, coded×, coded_ℕ, coded_list, coded_option}
+use Rattle.salt_frame.specs.Frames.{frame, frames, IsBody, Reads}
+
+-- the bytes after the frames that were taken, and the length over the limit that came
+pub record Held : Type 0 where
+  pub kept : List ℕ
+  pub over : Option ℕ
+
+abbrev pub held_code : Coded Held
+held_code = code_by (List ℕ × Option ℕ) (coded× (coded_list coded_ℕ) (coded_option coded_ℕ)) (λ h. (h.kept, h.over)) (λ p. record { kept = p.0; over = p.1 }) (λ _. refl)
+
+-- what is kept of the rest: of a length over the limit its four bytes alone
+abbrev pub kept_of : Option ℕ → List ℕ → List ℕ
+kept_of None rest = rest
+kept_of (Some n) rest = to_be_bytes w32 n
+
+-- of this stream the first bodies are taken: the others, and what is kept of the rest, are held
+pub record Holds (stream : List ℕ) (taken : List (List ℕ)) (h : Held) : Type 0 where
+  pub others : List (List ℕ)
+  pub rest : List ℕ
+  pub reads : Reads stream (taken ++ others) h.over rest
+  pub kept : h.kept ≡ frames others ++ kept_of h.over rest
+
+-- the body of the first frame is taken, or nothing
+pub record Takes (old : Held) (taken : Option (List ℕ)) (new : Held) : Type 0 where
+  pub some : (body : List ℕ) → taken ≡ Some body → IsBody body × (old.kept ≡ frame body ++ new.kept) × (new.over ≡ old.over)
+  pub none : taken ≡ None → new ≡ old
+  -- a whole frame that is left is the one that is taken
+  pub whole : (body more : List ℕ) → IsBody body → old.kept ≡ frame body ++ more → (taken ≡ Some body) × (new.kept ≡ more)

@@ -1,0 +1,25 @@
+-- The fields of a buffer.
+use Rattle.std.specs.Prelude.{◌≡◌, ◌≤◌, ◌-◌, ◌<◌, ◌^◌, ℕ, List, length, take, drop, Option, Some, None}
+use Rattle.std.specs.Int.{w32, to_be_bytes}
+use Rattle.std.specs.List.{AllByRecursion}
+use Rattle.salt_frame.specs.Frames.{frames, limit, IsBody, IsPartial}
+use Rattle.salt_frame.specs.Held.{Held}
+use Rattle.salt_frame.specs.declared.buffer.FrameBuf.TheInside.{Inside}
+
+abbrev pub held : Inside → Held
+held a = record { kept = drop a.start a.bytes.items; over = a.over }
+
+-- whole frames alone
+abbrev pub AreFrames : List ℕ → Type 0
+AreFrames bytes = (bodies : List (List ℕ)) × (bytes ≡ frames bodies) × AllByRecursion IsBody bodies
+
+-- less than a whole frame, or nothing but the length that is over the limit
+abbrev pub Tail : Option ℕ → List ℕ → Type 0
+Tail None rest = IsPartial rest
+Tail (Some n) rest = (limit < n) × (n < 2 ^ 32) × (rest ≡ to_be_bytes w32 n)
+
+pub record IsInside (a : Inside) : Type 0 where
+  pub ordered : a.start ≤ a.ready
+  pub within : a.ready ≤ length a.bytes.items
+  pub frames : AreFrames (take (a.ready - a.start) (drop a.start a.bytes.items))
+  pub tail : Tail a.over (drop a.ready a.bytes.items)
