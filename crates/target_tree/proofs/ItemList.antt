@@ -1,0 +1,100 @@
+-- The items of a list, from the left, and ids as a test.
+use Rattle.std.proofs.Common.{◌≡◌, ◌≢◌, ℕ, suc, ◌<◌, Bool, true, false, List, [], ◌∷◌, ◌++◌, length, map, get_or, refl, ap, sym, ◌∙◌, arith, append_assoc}
+use Rattle.std.specs.Prelude.{if◌then◌else◌, nat_le, nat_eq, ◌&&◌}
+use Rattle.std.specs.List.{slice_split, list_all, onto_first, before_first, after_first, position_or_len}
+use Rattle.std.proofs.lemmas.Bool.Decides.{nat_tests}
+use Rattle.std.proofs.lemmas.List.Splits.{slice_split_first, slice_split-cons_no}
+use Rattle.std.proofs.lemmas.List.Folds.{list_all-append}
+use Rattle.salt_value.specs.Id.{IsId, is_id_byte}
+use Rattle.target_tree.specs.declared.target.Target.TheVariants.{IdList}
+use Rattle.target_tree.specs.declared.token.Token.TheVariants.{Leaf, NoLeaf}
+use Rattle.target_tree.specs.Words.{id_list, is_id, items_of, trimmed}
+
+both-true : (a b : Bool) → (a && b) ≡ true → (a ≡ true) × (b ≡ true)
+both-true true b h = (refl, h)
+both-true false b h = absurd (cc)
+
+-- the test of an id tells ids
+id-told : (bytes : List ℕ) → is_id bytes ≡ true → IsId bytes
+id-told bytes h =
+    let first = both-true (nat_le 1 (length bytes) && nat_le (length bytes) 64) (list_all is_id_byte bytes) h in
+    let second = both-true (nat_le 1 (length bytes)) (nat_le (length bytes) 64) first.0 in
+    (grind (arith, nat_tests, second.0), grind (arith, nat_tests, second.1), first.1)
+
+pub id-yes : (bytes : List ℕ) → IsId bytes → is_id bytes ≡ true
+id-yes bytes (some, short, all) =
+    let low : nat_le 1 (length bytes) ≡ true = grind (arith, nat_tests) in
+    let high : nat_le (length bytes) 64 ≡ true = grind (arith, nat_tests) in
+    rw (low, high) all
+
+pub id-no : (bytes : List ℕ) → (IsId bytes → ⊥) → is_id bytes ≡ false
+id-no bytes bad = by (is_id bytes) refl
+  where
+    by : (b : Bool) → is_id bytes ≡ b → is_id bytes ≡ false
+    by true e = absurd (bad (id-told bytes e))
+    by false e = e
+
+abbrev pub comma : ℕ → Bool
+comma b = nat_eq b 44
+
+-- the first item, and the others
+pub items-more : (text item rest : List ℕ) → item ≡ before_first comma text → rest ≡ after_first comma text → position_or_len comma text < length text → items_of text ≡ trimmed item ∷ items_of rest
+unfolding items_of
+items-more text item rest e f h =
+    let cut : slice_split comma text ≡ item ∷ slice_split comma rest = slice_split_first comma text 0 h ∙ cc in
+    ap (map trimmed) cut
+
+uncut : (text : List ℕ) → ((i : ℕ) → i < length text → get_or text i 0 ≢ 44) → slice_split comma text ≡ text ∷ []
+uncut [] h = refl
+uncut (b ∷ text) h =
+    let first : b ≢ 44 = h 0 (omega arith) in
+    let no : comma b ≡ false = grind (arith, nat_tests) in
+    slice_split-cons_no comma b text no ∙ ap (onto_first b) (uncut text (λ i lt. h (suc i) (omega arith)))
+
+pub items-last : (text : List ℕ) → ((i : ℕ) → i < length text → get_or text i 0 ≢ 44) → items_of text ≡ trimmed text ∷ []
+unfolding items_of
+items-last text h = ap (map trimmed) (uncut text h)
+
+false-and : (a b : Bool) → b ≡ false → (a && b) ≡ false
+false-and true b e = e
+false-and false b e = refl
+
+-- an item that is no id
+pub items-bad : (text : List ℕ) (ids more : List (List ℕ)) (item : List ℕ) → items_of text ≡ ids ++ item ∷ more → is_id item ≡ false → NoLeaf ≡ id_list text
+unfolding id_list
+items-bad text ids more item e bad =
+    let none : list_all is_id (items_of text) ≡ false =
+    ap (list_all is_id) e ∙ (list_all-append is_id ids (item ∷ more) ∙ false-and (list_all is_id ids) (is_id item && list_all is_id more) (ap (λ (b : Bool). b && list_all is_id more) bad)) in
+    sym (ap (λ (b : Bool). if b then Leaf (IdList (items_of text)) else NoLeaf) none)
+
+-- one id more
+pub ids-more : (ids : List (List ℕ)) (item : List ℕ) → list_all is_id ids ≡ true → is_id item ≡ true → list_all is_id (ids ++ item ∷ []) ≡ true
+ids-more ids item e f = list_all-append is_id ids (item ∷ []) ∙ rw (e, f) refl
+
+-- all are ids
+pub items-good : (text : List ℕ) (ids : List (List ℕ)) → items_of text ≡ ids → list_all is_id ids ≡ true → Leaf (IdList ids) ≡ id_list text
+unfolding id_list
+items-good text ids e good =
+    let all : list_all is_id (items_of text) ≡ true = ap (list_all is_id) e ∙ good in
+    ap (λ (x : List (List ℕ)). Leaf (IdList x)) (sym e) ∙ sym (ap (λ (b : Bool). if b then Leaf (IdList (items_of text)) else NoLeaf) all)
+
+-- the items after ids that were read
+pub next-item : (ids : List (List ℕ)) (text item rest : List ℕ) → item ≡ before_first comma text → rest ≡ after_first comma text → position_or_len comma text < length text
+    → ids ++ items_of text ≡ ids ++ trimmed item ∷ items_of rest
+next-item ids text item rest e f h = ap (λ (x : List (List ℕ)). ids ++ x) (items-more text item rest e f h)
+
+pub last-item : (ids : List (List ℕ)) (text : List ℕ) → ((i : ℕ) → i < length text → get_or text i 0 ≢ 44) → ids ++ items_of text ≡ ids ++ trimmed text ∷ []
+last-item ids text h = ap (λ (x : List (List ℕ)). ids ++ x) (items-last text h)
+
+pub one-more : (ids : List (List ℕ)) (text item rest id : List ℕ) (more : List (List ℕ)) → item ≡ before_first comma text → rest ≡ after_first comma text → position_or_len comma text < length text
+    → id ≡ trimmed item → more ≡ ids ++ id ∷ [] → ids ++ items_of text ≡ more ++ items_of rest
+one-more ids text item rest id more e f h same pushed =
+    next-item ids text item rest e f h
+    ∙ (ap (λ (x : List ℕ). ids ++ x ∷ items_of rest) (sym same) ∙ (sym (append_assoc ids (id ∷ []) (items_of rest)) ∙ ap (λ (x : List (List ℕ)). x ++ items_of rest) (sym pushed)))
+
+pub last-more : (ids : List (List ℕ)) (text id : List ℕ) (more : List (List ℕ)) → ((i : ℕ) → i < length text → get_or text i 0 ≢ 44) → id ≡ trimmed text → more ≡ ids ++ id ∷ []
+    → ids ++ items_of text ≡ more
+last-more ids text id more h same pushed = last-item ids text h ∙ (ap (λ (x : List ℕ). ids ++ x ∷ []) (sym same) ∙ sym pushed)
+
+pub all-more : (ids : List (List ℕ)) (id : List ℕ) (more : List (List ℕ)) → list_all is_id ids ≡ true → is_id id ≡ true → more ≡ ids ++ id ∷ [] → list_all is_id more ≡ true
+all-more ids id more all one pushed = ap (list_all is_id) pushed ∙ ids-more ids id all one

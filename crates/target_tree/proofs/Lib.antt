@@ -1,0 +1,11 @@
+pub mod Erasure
+pub mod Complete
+pub mod Sound
+pub mod Steps
+pub mod Cuts
+pub mod Joins
+pub mod Letters
+pub mod Rows
+pub mod Table
+pub mod ItemList
+pub mod Named

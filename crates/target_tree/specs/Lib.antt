@@ -1,0 +1,9 @@
+pub mod Kinds
+pub mod Nodegroups
+pub mod Words
+pub mod Grammar
+pub mod Reading
+pub mod Targets
+pub mod Parted
+pub mod Machine
+pub mod Going

@@ -1,0 +1,25 @@
+-- Nodegroups: names, and the texts that they stand for.
+use Rattle.std.specs.Prelude.{ℕ, Bool, List, map, is_some, Option, bytes_eq}
+use Rattle.std.specs.List.{list_any, AllByRecursion}
+use Rattle.std.specs.Map.{lookup}
+use Rattle.salt_value.specs.Id.{IsId}
+
+-- a nodegroup: its name and its text
+abbrev pub Group : Type 0
+Group = List ℕ × List ℕ
+
+-- the text of the nodegroup that has this name
+abbrev pub text_of : List Group → List ℕ → Option (List ℕ)
+text_of groups name = lookup (bytes_eq name) groups
+
+-- a nodegroup has this name
+abbrev pub is_named : List Group → List ℕ → Bool
+is_named groups name = is_some (text_of groups name)
+
+-- each name is an id
+abbrev pub AreIds : List Group → Type 0
+AreIds groups = AllByRecursion IsId (map (λ group. group.0) groups)
+
+-- one of these names is this one
+abbrev pub is_among : List (List ℕ) → List ℕ → Bool
+is_among names name = list_any (λ other. bytes_eq other name) names

@@ -1,0 +1,23 @@
+//! Targets: the words of a compound, their tree, and their faults.
+#![tactic(auto)]
+
+mod copy;
+mod fault;
+mod groups;
+mod items;
+mod kind;
+mod read;
+mod reader;
+mod run;
+mod stack;
+mod target;
+#[cfg(test)]
+mod tests;
+mod token;
+mod words;
+
+pub use fault::TargetFault;
+pub use groups::{GroupFault, Groups};
+pub use kind::Kind;
+pub use read::{read_target, trees_are_read};
+pub use target::Target;

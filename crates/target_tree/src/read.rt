@@ -1,0 +1,109 @@
+ghost use Rattle.std.specs.Prelude.{◌≡◌, ◌≢◌, IfOk, IsOk};
+ghost use Rattle.target_tree.specs.declared.target.Target.{Target as Tree};
+ghost use Rattle.target_tree.specs.declared.kind.Kind.{Kind as AnyKind};
+ghost use Rattle.target_tree.specs.Nodegroups.{Group};
+ghost use Rattle.std.specs.Prelude.{ℕ, List};
+ghost use Rattle.target_tree.specs.Machine.{Gives, machine_tree};
+ghost use Rattle.target_tree.specs.Targets.{IsTarget, IsReadUnlessLimit, Answers, reading, sole_word};
+
+use crate::items::id_list_of;
+use crate::reader::Reader;
+use crate::run::{checked, one_word, run};
+use crate::stack::Stack;
+use crate::token::{Token, to_text};
+use crate::{Groups, Kind, Target, TargetFault};
+use std::alloc::{AllocError, Global};
+
+/// A text stands for a tree exactly where its reading has no fault, but for the limits.
+pub fn trees_are_read()
+    ensures has_tree { (kind : AnyKind) (groups : List Group) (text : List ℕ) → IsOk (reading kind groups text) → (t : Tree) × IsTarget kind groups text t }
+    ensures is_read { (kind : AnyKind) (groups : List Group) (text : List ℕ) (t : Tree) → IsTarget kind groups text t → IsReadUnlessLimit (reading kind groups text) }
+{}
+
+/// The one word of another kind than compound.
+fn sole_token(alloc: Global, kind: Kind, text: &str) -> Result<Token, AllocError>
+    ensures { IfOk result (λ t. t ≡ sole_word kind text.now) }
+{
+    Ok(match kind {
+        Kind::Glob => Token::Leaf(Target::IdGlob(to_text(alloc, text)?)),
+        Kind::Pcre => Token::Pattern(Target::IdPcre(to_text(alloc, text)?)),
+        Kind::List => return id_list_of(alloc, text),
+        Kind::Grain => Token::Leaf(Target::GrainGlob(to_text(alloc, text)?)),
+        Kind::GrainPcre => Token::Pattern(Target::GrainPcre(to_text(alloc, text)?)),
+        Kind::Pillar => Token::Leaf(Target::PillarGlob(to_text(alloc, text)?)),
+        Kind::PillarPcre => Token::Pattern(Target::PillarPcre(to_text(alloc, text)?)),
+        Kind::Nodegroup => Token::Nodegroup(to_text(alloc, text)?),
+        Kind::Compound => Token::NoLeaf,
+    })
+}
+
+fn read_compound<'a>(
+    alloc: Global,
+    text: &'a str,
+    groups: &'a Groups,
+) -> Result<Target, TargetFault>
+    ensures { Gives result (machine_tree Kind.Compound groups.entry.now text.entry.now) }
+{
+    let rest = checked(text)?;
+    run(
+        alloc,
+        groups,
+        Stack::new(alloc),
+        Reader::begin(alloc, 0, 0, 0),
+        rest,
+    )
+}
+
+fn read_sole<'a>(
+    alloc: Global,
+    kind: Kind,
+    text: &'a str,
+    groups: &'a Groups,
+) -> Result<Target, TargetFault>
+    requires { kind ≢ Kind.Compound }
+    ensures { Gives result (machine_tree kind groups.entry.now text.entry.now) }
+{
+    if text.is_empty() {
+        return Err(TargetFault::Empty);
+    }
+    if text.len() > 4096 {
+        return Err(TargetFault::TooLong);
+    }
+    let word = sole_token(alloc, kind, text)?;
+    let mut outers = Stack::new(alloc);
+    let begun = Reader::begin(alloc, 0, 0, 0);
+    let (next, rest) = one_word(alloc, groups, &mut outers, begun, word, "")?;
+    run(alloc, groups, outers, next, rest)
+}
+
+fn read<'a>(
+    alloc: Global,
+    kind: Kind,
+    text: &'a str,
+    groups: &'a Groups,
+) -> Result<Target, TargetFault>
+    ensures { Gives result (machine_tree kind groups.entry.now text.entry.now) }
+{
+    match kind {
+        Kind::Compound => read_compound(alloc, text, groups),
+        kind => read_sole(alloc, kind, text, groups),
+    }
+}
+
+/// Reads a target of at most 4,096 bytes. A fault is the first one of a reading from left to right, in which a nodegroup's words are read
+/// where its word stands. The language is that of the Salt documentation, Targeting Minions; its precedence, its limits and
+/// its faults with their places are this project's own.
+pub fn read_target(
+    alloc: Global,
+    kind: Kind,
+    text: &str,
+    groups: &Groups,
+) -> Result<Target, TargetFault>
+    // What is read stands for this tree, and for no other.
+    ensures tree { IfOk result (IsTarget kind groups.now text.now) }
+    ensures only { IfOk result (λ tree. (other : Tree) → IsTarget kind groups.now text.now other → other ≡ tree) }
+    // Each fault comes exactly where the reading has it.
+    ensures fault { Answers result (reading kind groups.now text.now) }
+{
+    read(alloc, kind, text, groups)
+}

@@ -1,0 +1,385 @@
+ghost use Rattle.std.specs.Prelude.{◌≡◌, ◌-◌, ◌<◌, Ok, IfOk};
+ghost use Rattle.target_tree.specs.Machine.{Gives, fresh, mended, joined_and, joined_or, negations, machine_begun, machine_operand, machine_operator, machine_closing, machine_word, machine_end, machine_resumed, no_group};
+
+use crate::stack::Stack;
+use crate::token::Token;
+use crate::{Target, TargetFault};
+use sqlite_items::Boxed;
+use std::alloc::{AllocError, Global};
+
+/// How many words `not` and `(` stood open where a parenthesis or a text began, and how many do now.
+#[derive(Clone, Copy)]
+pub struct Nest {
+    pub around: u32,
+    pub deep: u32,
+}
+
+/// A parenthesis or a text: what stands before an `or` and an `and`.
+#[derive(Drop)]
+pub struct Part {
+    pub left_or: Option<Target>,
+    pub left_and: Option<Target>,
+    pub nest: Nest,
+}
+
+/// The reading of one text.
+#[derive(Drop)]
+pub struct Reader {
+    /// The operand that ended, with those that `and` joined to it.
+    pub last: Option<Target>,
+    pub part: Part,
+    pub parts: Stack<Part>,
+    pub at: u32,
+    pub patterns: u32,
+}
+
+/// A text that was read.
+#[derive(Drop)]
+pub struct Ended {
+    pub tree: Target,
+    pub at: u32,
+    pub patterns: u32,
+}
+
+/// The tree under one `not` more.
+fn under_not(alloc: Global, tree: Target) -> Result<Target, AllocError>
+    ensures { IfOk result (λ t. t ≡ Target.Not tree) }
+{
+    Ok(Target::Not(Boxed::new(alloc, tree)?))
+}
+
+/// The tree under each `not` that stands open.
+fn negated(alloc: Global, tree: Target, nest: Nest) -> Result<Target, AllocError>
+    ensures { IfOk result (λ t. t ≡ negations (nest.deep - nest.around) tree) }
+{
+    let mut tree = tree;
+    for _ in nest.around..nest.deep {
+        tree = under_not(alloc, tree)?;
+    }
+    Ok(tree)
+}
+
+fn both(alloc: Global, left: Option<Target>, right: Target) -> Result<Target, AllocError>
+    ensures { IfOk result (λ t. t ≡ joined_and left right) }
+{
+    match left {
+        None => Ok(right),
+        Some(left) => {
+            let left = Boxed::new(alloc, left)?;
+            let right = Boxed::new(alloc, right)?;
+            Ok(Target::And(left, right))
+        }
+    }
+}
+
+fn either(alloc: Global, left: Option<Target>, right: Target) -> Result<Target, AllocError>
+    ensures { IfOk result (λ t. t ≡ joined_or left right) }
+{
+    match left {
+        None => Ok(right),
+        Some(left) => {
+            let left = Boxed::new(alloc, left)?;
+            let right = Boxed::new(alloc, right)?;
+            Ok(Target::Or(left, right))
+        }
+    }
+}
+
+fn fresh_nest(around: u32) -> Nest
+    ensures { result ≡ fresh around }
+{
+    Nest {
+        around,
+        deep: around,
+    }
+}
+
+impl Reader {
+    /// At the start of a text.
+    pub fn begin(alloc: Global, around: u32, at: u32, patterns: u32) -> Reader
+        ensures { result ≡ machine_begun around at patterns }
+    {
+        Reader {
+            last: None,
+            part: Part {
+                left_or: None,
+                left_and: None,
+                nest: fresh_nest(around),
+            },
+            parts: Stack::new(alloc),
+            at,
+            patterns,
+        }
+    }
+
+    /// After an operand.
+    fn mend(self, alloc: Global, tree: Target) -> Result<Reader, AllocError>
+        ensures { IfOk result (λ r. r ≡ mended tree self) }
+    {
+        let Reader {
+            last: _,
+            part,
+            parts,
+            at,
+            patterns,
+        } = self;
+        let Part {
+            left_or,
+            left_and,
+            nest,
+        } = part;
+        let tree = negated(alloc, tree, nest)?;
+        let tree = both(alloc, left_and, tree)?;
+        Ok(Reader {
+            last: Some(tree),
+            part: Part {
+                left_or,
+                left_and: None,
+                nest: fresh_nest(nest.around),
+            },
+            parts,
+            at,
+            patterns,
+        })
+    }
+}
+
+impl Reader {
+    /// After a word where an operand is due, and which is no nodegroup's.
+    fn operand(self, alloc: Global, word: Token) -> Result<Reader, TargetFault>
+        requires { self.at < 256 }
+        ensures { Gives result (machine_operand no_group word self) }
+    {
+        let at = self.at;
+        match word {
+            Token::NotWord => self.deepen(),
+            Token::OpenWord => self.nest(),
+            Token::Leaf(tree) => self.leaf(alloc, tree),
+            Token::Pattern(tree) => self.pattern(alloc, tree),
+            Token::NoLetter => Err(TargetFault::BadLetter { at }),
+            _ => Err(TargetFault::Word { at }),
+        }
+    }
+
+    fn deepen(self) -> Result<Reader, TargetFault>
+        requires { self.at < 256 }
+        ensures { Gives result (machine_operand no_group Token.NotWord self) }
+    {
+        let mut reader = self;
+        if reader.part.nest.deep >= 64 {
+            return Err(TargetFault::TooDeep);
+        }
+        reader.part.nest.deep += 1;
+        reader.at += 1;
+        Ok(reader)
+    }
+
+    fn nest(self) -> Result<Reader, TargetFault>
+        requires { self.at < 256 }
+        ensures { Gives result (machine_operand no_group Token.OpenWord self) }
+    {
+        let Reader {
+            last,
+            part,
+            parts,
+            at,
+            patterns,
+        } = self;
+        if part.nest.deep >= 64 {
+            return Err(TargetFault::TooDeep);
+        }
+        let inner = Part {
+            left_or: None,
+            left_and: None,
+            nest: fresh_nest(part.nest.deep + 1),
+        };
+        let mut parts = parts;
+        parts.push(part)?;
+        Ok(Reader {
+            last,
+            part: inner,
+            parts,
+            at: at + 1,
+            patterns,
+        })
+    }
+
+    fn leaf(self, alloc: Global, tree: Target) -> Result<Reader, TargetFault>
+        requires { self.at < 256 }
+        ensures { Gives result (machine_operand no_group (Token.Leaf tree) self) }
+    {
+        let mut reader = self;
+        reader.at += 1;
+        Ok(reader.mend(alloc, tree)?)
+    }
+
+    fn pattern(self, alloc: Global, tree: Target) -> Result<Reader, TargetFault>
+        requires { self.at < 256 }
+        ensures { Gives result (machine_operand no_group (Token.Pattern tree) self) }
+    {
+        let mut reader = self;
+        if reader.patterns >= 16 {
+            return Err(TargetFault::TooManyPatterns);
+        }
+        reader.patterns += 1;
+        reader.at += 1;
+        Ok(reader.mend(alloc, tree)?)
+    }
+
+    /// After a word where none is due.
+    fn operator(self, alloc: Global, last: Target, word: Token) -> Result<Reader, TargetFault>
+        requires { self.at < 256 }
+        ensures { Gives result (machine_operator last word self) }
+    {
+        let at = self.at;
+        match word {
+            Token::AndWord => self.after_and(last),
+            Token::OrWord => self.after_or(alloc, last),
+            Token::CloseWord => self.close(alloc, last),
+            _ => Err(TargetFault::Word { at }),
+        }
+    }
+
+    fn after_and(self, last: Target) -> Result<Reader, TargetFault>
+        requires { self.at < 256 }
+        ensures { Gives result (machine_operator last Token.AndWord self) }
+    {
+        let Reader {
+            last: _,
+            part,
+            parts,
+            at,
+            patterns,
+        } = self;
+        let Part {
+            left_or,
+            left_and: _,
+            nest,
+        } = part;
+        Ok(Reader {
+            last: None,
+            part: Part {
+                left_or,
+                left_and: Some(last),
+                nest,
+            },
+            parts,
+            at: at + 1,
+            patterns,
+        })
+    }
+
+    fn after_or(self, alloc: Global, last: Target) -> Result<Reader, TargetFault>
+        requires { self.at < 256 }
+        ensures { Gives result (machine_operator last Token.OrWord self) }
+    {
+        let Reader {
+            last: _,
+            part,
+            parts,
+            at,
+            patterns,
+        } = self;
+        let Part {
+            left_or,
+            left_and: _,
+            nest,
+        } = part;
+        let tree = either(alloc, left_or, last)?;
+        Ok(Reader {
+            last: None,
+            part: Part {
+                left_or: Some(tree),
+                left_and: None,
+                nest,
+            },
+            parts,
+            at: at + 1,
+            patterns,
+        })
+    }
+
+    fn close(self, alloc: Global, last: Target) -> Result<Reader, TargetFault>
+        requires { self.at < 256 }
+        ensures { Gives result (machine_closing last self.parts self) }
+    {
+        let Reader {
+            last: _,
+            part,
+            parts,
+            at,
+            patterns,
+        } = self;
+        let mut parts = parts;
+        match parts.pop() {
+            None => Err(TargetFault::Word { at }),
+            Some(outer) => {
+                let Part {
+                    left_or,
+                    left_and: _,
+                    nest: _,
+                } = part;
+                let tree = either(alloc, left_or, last)?;
+                let reader = Reader {
+                    last: None,
+                    part: outer,
+                    parts,
+                    at,
+                    patterns,
+                };
+                reader.leaf(alloc, tree)
+            }
+        }
+    }
+
+    /// After a word that is no nodegroup's, or comes where no operand is due.
+    pub fn word(self, alloc: Global, word: Token) -> Result<Reader, TargetFault>
+        ensures { Gives result (machine_word no_group word self) }
+    {
+        let mut reader = self;
+        if reader.at >= 256 {
+            return Err(TargetFault::TooManyWords);
+        }
+        match reader.last.take() {
+            None => reader.operand(alloc, word),
+            Some(last) => reader.operator(alloc, last, word),
+        }
+    }
+
+    /// At the end of a text.
+    pub fn end(self, alloc: Global) -> Result<Ended, TargetFault>
+        ensures { Gives result (machine_end self) }
+    {
+        let Reader {
+            last,
+            part,
+            parts,
+            at,
+            patterns,
+        } = self;
+        let Some(last) = last else {
+            return Err(TargetFault::Word { at });
+        };
+        if !parts.is_empty() {
+            return Err(TargetFault::Unclosed);
+        }
+        let Part {
+            left_or,
+            left_and: _,
+            nest: _,
+        } = part;
+        let tree = either(alloc, left_or, last)?;
+        Ok(Ended { tree, at, patterns })
+    }
+
+    /// After a nodegroup's text.
+    pub fn resume(self, alloc: Global, ended: Ended) -> Result<Reader, TargetFault>
+        ensures { Gives result (machine_resumed self ended) }
+    {
+        let Ended { tree, at, patterns } = ended;
+        let mut reader = self;
+        reader.at = at;
+        reader.patterns = patterns;
+        Ok(reader.mend(alloc, tree)?)
+    }
+}
