@@ -1,12 +1,12 @@
 -- A top with minions under it is a fleet.
-use Rattle.std.proofs.Common.{◌≡◌, ℕ, zero, suc, ◌+◌, ◌<◌, ◌≤◌, ◌≢◌, ◌∙◌, sym, ap, refl, subst, Bool, true, false, List, [], ◌∷◌, length, map, bytes_eq, arith}
+use Rattle.std.proofs.Common.{◌≡◌, ℕ, zero, suc, ◌<◌, ◌≤◌, ◌∙◌, sym, ap, refl, true, false, List, [], ◌∷◌, length, map, bytes_eq, arith}
 use Rattle.std.specs.List.{AllByRecursion, IsDistinct, slice_index_or}
 use Rattle.std.proofs.lemmas.Map.Keys.{IsDistinct-head, IsDistinct-tail}
 use Rattle.std.proofs.lemmas.Slice.Eq.{bytes_eq-Decides}
 use Rattle.std.proofs.lemmas.List.{length-map}
 use Rattle.fleet_config.specs.declared.fleet.Member.{Member}
 use Rattle.fleet_config.specs.declared.fleet.Role.TheVariants as role
-use Rattle.fleet_config.specs.Tree.{IsFleet, flat_fleet, minion_of, id_of, member, parent_of, is_minion}
+use Rattle.fleet_config.specs.Tree.{IsFleet, flat_fleet, minion_of, id_of, member, parent_of}
 
 ids_in : (xs : List (List ℕ)) → map (λ (m : Member). m.id) (map minion_of xs) ≡ xs
 ids_in [] = refl

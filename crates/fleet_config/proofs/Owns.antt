@@ -1,12 +1,11 @@
 -- The minions at or below a minion are itself.
-use Rattle.std.proofs.Common.{◌≡◌, ℕ, zero, suc, ◌+◌, ◌<◌, ◌≤◌, ◌⊎◌, ◌∙◌, sym, ap, refl, subst, inl, inr, Bool, true, false, ◌&&◌, ◌||◌, ◌==◌, nat_lt, List, [], ◌∷◌, ◌++◌, length, filter, All, arith, append-nil, if◌then◌else◌}
-use Rattle.std.proofs.lemmas.Bool.Decides.{eqb_tells, leb_tells}
+use Rattle.std.proofs.Common.{◌≡◌, ℕ, zero, suc, ◌+◌, ◌<◌, ◌≤◌, ◌∙◌, sym, ap, refl, subst, inl, inr, Bool, true, false, ◌&&◌, ◌==◌, List, [], ◌∷◌, ◌++◌, length, filter, All, arith, if◌then◌else◌}
+use Rattle.std.proofs.lemmas.Bool.Decides.{eqb_tells}
 use Rattle.std.proofs.lemmas.Bool.{cases_lt}
 use Rattle.std.proofs.lemmas.List.Elements.{filter-append, All-filter, All-push}
 use Rattle.std.proofs.lemmas.List.{get_or_past}
 use Rattle.fleet_config.specs.declared.fleet.Member.{Member}
-use Rattle.fleet_config.specs.declared.fleet.Role.TheVariants as role
-use Rattle.fleet_config.specs.Tree.{IsFleet, branch, branch_by, is_minion, is_within, member, minions, parent_of, runs_jobs, up_to}
+use Rattle.fleet_config.specs.Tree.{IsFleet, branch, branch_by, is_minion, is_within, minions, parent_of, runs_jobs, up_to}
 use Rattle.fleet_config.proofs.Walk.{branch_cases, branch_none}
 
 -- no node lies below a minion

@@ -1,5 +1,5 @@
 -- The place of an id, one node after the other.
-use Rattle.std.proofs.Common.{◌≡◌, ℕ, zero, suc, ◌+◌, ◌∙◌, sym, ap, refl, subst, inl, inr, Bool, true, false, cond, List, [], ◌∷◌, map, take, Option, None, Some, unwrap_or, slice_get, bytes_eq, arith}
+use Rattle.std.proofs.Common.{◌≡◌, ℕ, zero, suc, ◌+◌, ◌∙◌, sym, ap, refl, subst, Bool, true, false, cond, List, [], ◌∷◌, map, take, Option, None, Some, unwrap_or, slice_get, bytes_eq, arith}
 use Rattle.std.specs.List.{AllByRecursion, IsDistinct, position_from, position}
 use Rattle.std.proofs.lemmas.Map.Keys.{IsDistinct-head, IsDistinct-tail}
 use Rattle.std.proofs.lemmas.Slice.Eq.{bytes_eq-Decides}

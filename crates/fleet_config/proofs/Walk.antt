@@ -1,5 +1,5 @@
 -- Steps of the walk up from a node.
-use Rattle.std.proofs.Common.{◌≡◌, ℕ, zero, suc, ◌+◌, ◌-◌, ◌<◌, ◌≤◌, ◌⊎◌, ◌∙◌, sym, ap, refl, subst, inl, inr, List, arith}
+use Rattle.std.proofs.Common.{◌≡◌, ℕ, suc, ◌+◌, ◌-◌, ◌<◌, ◌≤◌, ◌⊎◌, ◌∙◌, sym, refl, subst, inl, inr, List, arith}
 use Rattle.std.proofs.lemmas.Bool.Decides.{eqb_tells, leb_tells}
 use Rattle.fleet_config.specs.declared.fleet.Member.{Member}
 use Rattle.fleet_config.specs.Tree.{branch_by, parent_of}

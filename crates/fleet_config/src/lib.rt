@@ -2,5 +2,7 @@
 #![tactic(auto)]
 
 mod fleet;
+#[cfg(test)]
+mod tests;
 
 pub use fleet::{Fleet, Member, Role};

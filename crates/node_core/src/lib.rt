@@ -8,6 +8,8 @@ mod logs;
 mod message;
 mod node;
 mod record;
+#[cfg(test)]
+mod tests;
 
 pub use counts::Counts;
 pub use faults::{PendFault, PublishFault, Stray, TakeFault};

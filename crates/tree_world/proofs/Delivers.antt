@@ -1,5 +1,5 @@
 -- A delivery of a packet that is there.
-use Rattle.std.proofs.Common.{◌≡◌, ℕ, ◌+◌, ◌<◌, ◌≤◌, ◌∙◌, sym, ap, refl, subst, Bool, true, false, List, length, Option, Some, nat_lt, arith, if◌then◌else◌}
+use Rattle.std.proofs.Common.{◌≡◌, ◌<◌, ◌≤◌, sym, refl, subst, Bool, true, false, List, length, Option, Some, nat_lt, arith, if◌then◌else◌}
 use Rattle.std.proofs.lemmas.Bool.{lt-ltb, ltb-true}
 use Rattle.fleet_config.specs.declared.fleet.Member.{Member}
 use Rattle.tree_world.specs.declared.turn.Packet.{Packet}

@@ -1,5 +1,5 @@
 -- The network machine: the nodes of a fleet, and the list of all packets ever sent. Each turn is one step.
-use Rattle.std.specs.Prelude.{◌^◌, ◌≤◌, ◌≡◌, ℕ, ◌<◌, ◌⊎◌, min, Bool, true, false, List, [], ◌∷◌, ◌++◌, length, map, take, slice_get, slice_set, Option, None, Some, Result, Ok, Err, nat_lt, if◌then◌else◌}
+use Rattle.std.specs.Prelude.{◌^◌, ◌≤◌, ◌≡◌, ℕ, ◌<◌, ◌⊎◌, min, true, false, List, [], ◌∷◌, ◌++◌, length, map, take, slice_get, slice_set, Option, None, Some, Result, Ok, Err, nat_lt, if◌then◌else◌}
 use Rattle.std.specs.List.{slice_index_or}
 use Rattle.fleet_config.specs.declared.fleet.Member.{Member}
 use Rattle.node_core.specs.declared.job.Job.{Job}

@@ -1,5 +1,5 @@
 -- The printed text, by cases on the turn and the network.
-use Rattle.std.specs.Prelude.{ℕ, ◌==◌, Bool, true, false, List, [], ◌∷◌, ◌++◌, length, flat_map, position, Option, None, Some, Result, Ok, Err, codes, decimal, if◌then◌else◌}
+use Rattle.std.specs.Prelude.{ℕ, ◌==◌, Bool, List, [], ◌∷◌, ◌++◌, length, flat_map, position, Option, None, Some, Result, Ok, Err, codes, decimal, if◌then◌else◌}
 use Rattle.salt_value.specs.Jid.{jid_text}
 use Rattle.fleet_config.specs.declared.fleet.Member.{Member}
 use Rattle.node_core.specs.declared.job.Job.{Job}

@@ -2,6 +2,8 @@
 #![tactic(auto)]
 
 mod report;
+#[cfg(test)]
+mod tests;
 mod text;
 mod turn;
 mod world;

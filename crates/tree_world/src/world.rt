@@ -94,6 +94,13 @@ impl World {
         })
     }
 
+    /// The fleet, which stays as it is.
+    pub fn fleet(&self) -> &Fleet
+        ensures { result.now ≡ self.now.fleet }
+    {
+        &self.fleet
+    }
+
     /// One turn: the network goes on by its step, and what the turn prints is written to the sink. After an `Err` the world is given
     /// up, and a front of the text was written.
     pub fn step<K: Sink>(&mut self, turn: &Turn, sink: &mut K) -> Result<(), StepFault>

@@ -1,4 +1,4 @@
-use Rattle.std.proofs.Common.{◌≡◌, take}
+use Rattle.std.proofs.Common.{take}
 use Rattle.fleet_config.specs.Places.{HasPlaces}
 use Rattle.fleet_config.proofs.fleet.index.Given as goal
 

@@ -1,7 +1,4 @@
-use Rattle.std.proofs.Common.{subst, sym, List, ℕ, bytes_eq, map, ◌∙◌, ap}
-use Rattle.std.specs.List.{IsDistinct}
-use Rattle.fleet_config.specs.declared.fleet.Member.{Member}
-use Rattle.fleet_config.specs.Tree.{IsFleet}
+use Rattle.std.proofs.Common.{sym}
 use Rattle.fleet_config.proofs.Fleets.{ids_of, flat_is_fleet}
 use Rattle.fleet_config.proofs.fleet.Fleet.flat.Goals as goal
 
