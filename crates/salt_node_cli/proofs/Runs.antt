@@ -7,10 +7,11 @@ use Rattle.tree_world.specs.Network.{IsTurn}
 use Rattle.script_text.specs.Refused.{IsRefusedAt}
 use Rattle.std.specs.Prelude.{◌≢◌, Option, None, Some}
 use Rattle.salt_outside.specs.Causes.{Rose}
+use Rattle.salt_outside.proofs.Parts.{part_none}
 use Rattle.salt_outside.specs.Streams.{appended, preceded, IsPart, IsAtEnd, HasAtMost}
 use Rattle.script_text.specs.declared.script.Script.{Script}
 use Rattle.script_text.specs.Script.{Spells, MayStand}
-use Rattle.salt_node_cli.specs.Replay.{Replayed, MaySpell, DoesSpell, MayRefuse, IsReplayStatus, refused_line, text_of_script, StaysSound}
+use Rattle.salt_node_cli.specs.Replay.{Replayed, MaySpell, DoesSpell, MayRefuse, IsReplayStatus, IsLineTold, refused_line, text_of_script}
 
 some_same : (a b : List ℕ) → Some a ≡ Some b → a ≡ b
 some_same a b e = cc
@@ -51,6 +52,7 @@ replayed left rb rn hb hn wb wn code text rest s e end spells only part done ros
       done = λ z. (s, may, done z);
       text = λ other h z. rw (same other h) (done z);
       part = λ other h z. rw (same other h) part;
+      silent = λ z bytes told none. absurd (none s (subst (λ t. MaySpell s t) told may));
       write_fault = λ z. (rose z, (s, may));
       refused = λ z other h. not_status code 3 cases z (omega arith) (omega arith) (omega arith);
       refusal = λ z. absurd (not_status code 3 cases z (omega arith) (omega arith) (omega arith));
@@ -67,19 +69,37 @@ may_refuse n text (Some bytes) rest e end h = rw (all_read text bytes rest e end
 pub refused_run : (left : Option (List ℕ)) (read_before read_now : ℕ) (held_before held_now : Option (List ℕ)) (write_before write_now : ℕ)
     (text : List ℕ) (rest : Option (List ℕ)) (n : ℕ)
     → left ≡ preceded text rest → IsAtEnd rest → ((other : Script) → Spells other text → ⊥) → IsRefusedAt n text
-    → IsPart held_before held_now (refused_line n) → HasAtMost 16777216 left
+    → IsLineTold (refused_line n) held_before held_now write_before write_now → HasAtMost 16777216 left
     → Replayed left read_before read_now held_before held_now write_before write_now 3
-refused_run left rb rn hb hn wb wn text rest n e end none place part fits = record {
+refused_run left rb rn hb hn wb wn text rest n e end none place told fits = record {
   status = inr (inr (inl refl));
   done = λ z. absurd (omega (arith, z));
   text = λ other h z. absurd (omega (arith, z));
   part = λ other h z. absurd (grind (arith, z));
+  silent = λ z bytes told other. absurd (omega (arith, z));
   write_fault = λ z. absurd (omega (arith, z));
   refused = λ z other h. none other (does_spell other text left rest e end h);
-  refusal = λ z. (n, may_refuse n text left rest e end place, part);
+  refusal = λ z. (n, may_refuse n text left rest e end place, told);
   read_fault = λ z. absurd (omega (arith, z));
   too_long = λ z. absurd (omega (arith, z));
   fits = λ z. fits;
+}
+
+-- a run that found no memory and wrote nothing
+pub silent_run : (left : Option (List ℕ)) (read_before read_now : ℕ) (held_before held_now : Option (List ℕ)) (write_before write_now : ℕ)
+    → held_now ≡ held_before → Replayed left read_before read_now held_before held_now write_before write_now 1
+silent_run left rb rn hb hn wb wn same = record {
+  status = inr (inl refl);
+  done = λ z. absurd (omega (arith, z));
+  text = λ other h z. absurd (omega (arith, z));
+  part = λ other h z. part_none hb hn (text_of_script other) same;
+  silent = λ z bytes told none. same;
+  write_fault = λ z. absurd (omega (arith, z));
+  refused = λ z other h. absurd (omega (arith, z));
+  refusal = λ z. absurd (omega (arith, z));
+  read_fault = λ z. absurd (omega (arith, z));
+  too_long = λ z. absurd (omega (arith, z));
+  fits = λ z. absurd (grind (arith, z));
 }
 
 -- the turns of a script are turns of its fleet

@@ -1,6 +1,6 @@
 -- One turn of a run.
 use Rattle.std.proofs.Common.{◌≡◌, ℕ, ◌+◌, ◌<◌, ◌≤◌, List, [], ◌∷◌, ◌++◌, drop, length, get_or, refl, ap, ◌∙◌, add-one, drop-cons}
-use Rattle.std.specs.Prelude.{Option, None, Some, Result, Ok, Err}
+use Rattle.std.specs.Prelude.{Option}
 use Rattle.salt_outside.specs.Streams.{appended, IsPart}
 use Rattle.salt_outside.proofs.Parts.{part_after, part_front}
 use Rattle.salt_outside.proofs.Reading.{appended-appended}

@@ -1,5 +1,5 @@
 -- What a run over a script does.
-use Rattle.std.specs.Prelude.{◌≡◌, ◌⊎◌, ℕ, ◌≤◌, List, ◌∷◌, ◌++◌, length, codes, decimal, Option, None, Some}
+use Rattle.std.specs.Prelude.{◌≡◌, ◌⊎◌, ℕ, List, ◌++◌, codes, decimal, Option, None, Some}
 use Rattle.std.specs.Prelude.{All}
 use Rattle.salt_outside.specs.Causes.{Rose}
 use Rattle.salt_outside.specs.Streams.{appended, IsPart, HasMoreThan, HasAtMost}
@@ -39,6 +39,16 @@ full_source_line = line (codes "full source")
 abbrev pub no_command_line : List ℕ
 no_command_line = line (codes "salt_node: the words are no command")
 
+-- The line was written whole, or the sink failed and holds a front of it.
+abbrev pub IsLineTold : List ℕ → Option (List ℕ) → Option (List ℕ) → ℕ → ℕ → Type 0
+IsLineTold text held_before held_now write_before write_now =
+    (held_now ≡ appended held_before text) ⊎ (Rose write_before write_now × IsPart held_before held_now text)
+
+-- The words are no command: their line and status 2, or status 1 and no line.
+abbrev pub IsNoCommand : Option (List ℕ) → Option (List ℕ) → ℕ → ℕ → ℕ → Type 0
+IsNoCommand held_before held_now write_before write_now code =
+    ((code ≡ 2) × IsLineTold no_command_line held_before held_now write_before write_now) ⊎ ((code ≡ 1) × (held_now ≡ held_before))
+
 -- 0 the whole text, 1 no memory, 3 no script, 4 the source failed, 5 the sink failed, 12 too long a source
 abbrev pub IsReplayStatus : ℕ → Type 0
 IsReplayStatus code = (code ≡ 0) ⊎ (code ≡ 1) ⊎ (code ≡ 3) ⊎ (code ≡ 4) ⊎ (code ≡ 5) ⊎ (code ≡ 12)
@@ -52,15 +62,17 @@ pub record Replayed (left : Option (List ℕ)) (read_before read_now : ℕ) (hel
   pub text : (s : Script) → DoesSpell s left → code ≡ 0 → held_now ≡ appended held_before (text_of_script s)
   -- A front of the text was written where memory or the sink failed.
   pub part : (s : Script) → DoesSpell s left → (code ≡ 1) ⊎ (code ≡ 5) → IsPart held_before held_now (text_of_script s)
+  -- Where memory was not found for the line of a text that is no script, nothing was written.
+  pub silent : code ≡ 1 → (bytes : List ℕ) → left ≡ Some bytes → ((s : Script) → Spells s bytes → ⊥) → held_now ≡ held_before
   -- Status 5 comes only where the sink failed, over a script.
   pub write_fault : code ≡ 5 → Rose write_before write_now × ((s : Script) × MaySpell s left)
   -- Status 3 never comes over a script. Its one line names the first line with which no script goes on.
   pub refused : code ≡ 3 → (s : Script) → DoesSpell s left → ⊥
-  pub refusal : code ≡ 3 → (n : ℕ) × MayRefuse n left × IsPart held_before held_now (refused_line n)
+  pub refusal : code ≡ 3 → (n : ℕ) × MayRefuse n left × IsLineTold (refused_line n) held_before held_now write_before write_now
   -- Status 4 comes only where the source failed, and nothing was written.
   pub read_fault : code ≡ 4 → Rose read_before read_now × (held_now ≡ held_before)
   -- Status 12 comes only over more than 16,777,216 bytes, and there neither status 0 nor 3 nor 5 comes.
-  pub too_long : code ≡ 12 → HasMoreThan 16777216 left × IsPart held_before held_now full_source_line
+  pub too_long : code ≡ 12 → HasMoreThan 16777216 left × IsLineTold full_source_line held_before held_now write_before write_now
   pub fits : (code ≡ 0) ⊎ (code ≡ 3) ⊎ (code ≡ 5) → HasAtMost 16777216 left
 
 -- After every turn of a script, each row of a report at the top is one that the flat fleet gives, running the top's list of jobs in

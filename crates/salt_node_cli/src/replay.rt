@@ -1,14 +1,14 @@
-ghost use Rattle.std.specs.Prelude.{◌≡◌, ◌≢◌, ◌≤◌, ◌∷◌, [], ◌↔◌, codes, length, IsTrue, IfOk, OnOk, IsErrOf};
+ghost use Rattle.std.specs.Prelude.{◌≡◌, ◌≢◌, ◌≤◌, ◌∷◌, [], ◌↔◌, codes, length, IsTrue, IfOk, OnOk, OnErr, IsErrOf};
 ghost use Rattle.salt_outside.specs.Causes.{Rose};
 ghost use Rattle.salt_outside.specs.Streams.{appended, IsPart};
 ghost use Rattle.std.specs.List.{AllByRecursion};
 ghost use Rattle.tree_world.specs.Network.{IsTurn};
 ghost use Rattle.tree_world.specs.Text.{text_from};
 ghost use Rattle.script_text.specs.Script.{IsScript};
-ghost use Rattle.salt_node_cli.specs.Replay.{text_of_script, refused_line, Replayed, StaysSound, no_command_line};
+ghost use Rattle.salt_node_cli.specs.Replay.{text_of_script, refused_line, IsLineTold, IsNoCommand, Replayed, StaysSound};
 ghost use Rattle.script_text.specs.declared.script.Script.{Script};
 
-use salt_outside::{ReadAll, Sink, Source, read_all};
+use salt_outside::{Outside, ReadAll, Sink, Source, read_all};
 use salt_value::Text;
 use script_text::{Script, ScriptFault, read_script};
 use std::alloc::{AllocError, Global};
@@ -55,14 +55,24 @@ fn play<K: Sink>(alloc: Global, script: Script, sink: &mut K) -> Result<(), Step
     run_turns(&mut world, turns.as_slice(), sink)
 }
 
-// The line that refuses a script.
-#[tactic(auto, using(salt_outside::proofs::Parts::part_none))]
-fn write_refusal<K: Sink>(alloc: Global, line: u32, sink: &mut K)
-    ensures { IsPart (K.held sink.old) (K.held sink.new) (refused_line line) }
+// Writes the one line of a run. A sink that fails holds a front of it.
+fn write_line<K: Sink>(sink: &mut K, line: &[u8]) -> Result<(), AllocError>
+    ensures told { OnOk result (IsLineTold line.now (K.held sink.old) (K.held sink.new) (K.faults sink.old) (K.faults sink.new)) }
+    ensures memory { OnErr result (K.held sink.new ≡ K.held sink.old) }
 {
-    if let Ok(text) = refusal_text(alloc, line) {
-        let _ = sink.write(&text);
+    match sink.write(line) {
+        Ok(()) | Err(Outside::Failed) => Ok(()),
+        Err(Outside::NoMemory) => Err(AllocError),
     }
+}
+
+// Writes the line that refuses a script.
+fn write_refusal<K: Sink>(alloc: Global, line: u32, sink: &mut K) -> Result<(), AllocError>
+    ensures told { OnOk result (IsLineTold (refused_line line) (K.held sink.old) (K.held sink.new) (K.faults sink.old) (K.faults sink.new)) }
+    ensures memory { OnErr result (K.held sink.new ≡ K.held sink.old) }
+{
+    let text = refusal_text(alloc, line)?;
+    write_line(sink, &text)
 }
 
 fn refusal_text(alloc: Global, line: u32) -> Result<Vec<u8>, AllocError>
@@ -102,16 +112,20 @@ fn replay_script<S: Source, K: Sink>(alloc: Global, source: &mut S, sink: &mut K
         Err(ReadAll::NoMemory) => return Status { code: 1 },
         Err(ReadAll::ReadFault) => return Status { code: 4 },
         Err(ReadAll::TooLong { .. }) => {
-            let _ = sink.write(b"full source\n");
-            return Status { code: 12 };
+            return match write_line(sink, b"full source\n") {
+                Ok(()) => Status { code: 12 },
+                Err(_) => Status { code: 1 },
+            };
         }
     };
     let script = match read_script(alloc, &text) {
         Ok(script) => script,
         Err(ScriptFault::NoMemory) => return Status { code: 1 },
         Err(ScriptFault::NotYet { line }) => {
-            write_refusal(alloc, line, sink);
-            return Status { code: 3 };
+            return match write_refusal(alloc, line, sink) {
+                Ok(()) => Status { code: 3 },
+                Err(_) => Status { code: 1 },
+            };
         }
     };
     match play(alloc, script, sink) {
@@ -132,13 +146,15 @@ pub fn salt_main<S: Source, K: Sink>(
     ensures replay { words.now ≡ codes "replay" ∷ [] →
         Replayed (S.left source.old) (S.faults source.old) (S.faults source.new) (K.held sink.old) (K.held sink.new)
         (K.faults sink.old) (K.faults sink.new) result.code }
-    ensures no_command { words.now ≢ codes "replay" ∷ [] → (result.code ≡ 2) × IsPart (K.held sink.old) (K.held sink.new) no_command_line }
+    ensures no_command { words.now ≢ codes "replay" ∷ [] → IsNoCommand (K.held sink.old) (K.held sink.new) (K.faults sink.old) (K.faults sink.new) result.code }
 {
     if is_replay(words) {
         run_replay(alloc, source, sink)
     } else {
-        let _ = sink.write(b"salt_node: the words are no command\n");
-        Status { code: 2 }
+        match write_line(sink, b"salt_node: the words are no command\n") {
+            Ok(()) => Status { code: 2 },
+            Err(_) => Status { code: 1 },
+        }
     }
 }
 

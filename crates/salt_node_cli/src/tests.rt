@@ -126,6 +126,8 @@ fn failing_ends(rt: HostRuntime) -> Result<(), Fail> {
     let (status, text) = replay(alloc, Vec::new(alloc), &[], &[])?;
     assert_eq!(rt; status, 3);
     assert_eq!(rt; text.as_slice(), b"refused script 1 NotYet\n".as_slice());
+    let (status, text) = replay(alloc, Vec::new(alloc), &[], &[1])?;
+    assert_eq!(rt; (status, text.len()), (3, 0));
     let (status, text) = replay(alloc, vec![in alloc; b'\n'; 16_777_217]?, &[], &[])?;
     assert_eq!(rt; status, 12);
     assert_eq!(rt; text.as_slice(), b"full source\n".as_slice());

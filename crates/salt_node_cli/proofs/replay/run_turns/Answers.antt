@@ -1,4 +1,4 @@
-use Rattle.std.proofs.Common.{◌∙◌, ◌++◌, length, sym, ap, arith, append_assoc}
+use Rattle.std.proofs.Common.{◌∙◌, ◌++◌, sym, ap, arith, append_assoc}
 use Rattle.tree_world.specs.Text.{printed}
 use Rattle.salt_node_cli.proofs.Turns.{text_step, text_end, part_within, part_last, told_more}
 use Rattle.salt_node_cli.proofs.replay.run_turns.Goals as goal

@@ -1,4 +1,4 @@
-use Rattle.std.proofs.Common.{subst, List, ◌++◌}
+use Rattle.std.proofs.Common.{subst, List}
 use Rattle.std.specs.List.{AllByRecursion}
 use Rattle.tree_world.specs.declared.turn.Turn.{Turn}
 use Rattle.tree_world.specs.Network.{IsTurn}
