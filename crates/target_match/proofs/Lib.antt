@@ -1,0 +1,6 @@
+pub mod Reading
+pub mod Splits
+pub mod Meeting
+pub mod ById
+pub mod Readied
+pub mod Leaves

@@ -1,0 +1,55 @@
+use Rattle.std.proofs.Common.{arith, sym, ap, ◌∙◌}
+use Rattle.std.specs.Prelude.{bytes_eq}
+use Rattle.std.specs.List.{list_any}
+use Rattle.regex.specs.Strings.{regex_source}
+use Rattle.salt_value.specs.declared.value.Value.{size-Value}
+use Rattle.target_match.specs.Patterns.{starts}
+use Rattle.target_match.specs.Data.{reached, map_reached, reached_pairs}
+use Rattle.target_match.proofs.Meeting.{pairs_most, any-some, any-none, child-found, reached-List, reached-Map, carried}
+use Rattle.target_match.proofs.reach.+reached.Goals as goal
+
+pub any_reached-returns-then-branch-clause-value :
+    goal.any_reached-returns-then-branch-clause-value
+any_reached-returns-then-branch-clause-value t c =
+    let p = regex_source c.args.pattern.now in
+    sym (c.loop-item.invariant.same
+    ∙ any-some (λ v. reached (starts p) v c.args.path.now) c.args.items.now c.loop-item.item-index c.item-item.result c.loop-item-test.true
+    (ap (λ v. reached (starts p) v c.args.path.now) (sym c.item-item.is) ∙ sym c.in_ok-reached.ensures.value ∙ c.if-branch.true))
+
+pub any_reached-loop-item-preserved : goal.any_reached-loop-item-preserved
+any_reached-loop-item-preserved t c =
+    let p = regex_source c.args.pattern.now in
+    record {
+      kept = c.in_ok-reached.ensures.kept ∙ c.loop-item.invariant.kept;
+      same = c.loop-item.invariant.same
+          ∙ any-none (λ v. reached (starts p) v c.args.path.now) c.args.items.now c.loop-item.item-index c.item-item.result c.loop-item-test.true
+          (ap (λ v. reached (starts p) v c.args.path.now) (sym c.item-item.is) ∙ sym c.in_ok-reached.ensures.value ∙ c.if-branch.false);
+    }
+
+pub child_reached-reached-requires : goal.child_reached-reached-requires
+child_reached-reached-requires t c =
+    let below = pairs_most c.args.pairs.now c.loop-name.name-index c.loop-name-item.result c.loop-name-test.true in
+    let same = ap (λ p. size-Value p.1) c.loop-name-item.is in
+    (omega (arith, below, same), (c.requires.compiled, c.loop-name.invariant.kept ∙ c.requires.same))
+
+pub child_reached-returns-then-eq-clause-value :
+    goal.child_reached-returns-then-eq-clause-value
+child_reached-returns-then-eq-clause-value t c =
+    let p = regex_source c.args.pattern.now in
+    let d = c.loop-name-item.result in
+    let here = ap (λ k. bytes_eq k c.args.key.now) (sym (ap (λ q. q.0) c.loop-name-item.is)) ∙ ap (λ k. bytes_eq k c.args.key.now) (sym c.as_bytes.ensures) ∙ ap (bytes_eq c.as_bytes.result.now) (sym c.as_bytes-in-loop-name.ensures) ∙ sym c.eq.ensures ∙ c.if-eq.true in
+    carried c.reached.result _ _ c.reached.ensures.value (sym (c.loop-name.invariant.same
+    ∙ child-found (reached (starts p)) c.args.key.now c.args.pairs.now c.loop-name.name-index d c.args.path.now c.loop-name-test.true here
+    ∙ ap (λ q. reached (starts p) q.1 c.args.path.now) (sym c.loop-name-item.is)))
+
+pub reached-returns-in-List-clause-value : goal.reached-returns-in-List-clause-value
+reached-returns-in-List-clause-value t c =
+    let p = regex_source c.args.pattern.now in
+    carried c.any_reached.result _ _ c.any_reached.ensures.value (ap (list_any (λ v. reached (starts p) v c.args.path.now)) c.as_slice.ensures
+    ∙ sym (reached-List (starts p) c.in-List.items c.args.path.now) ∙ ap (λ v. reached (starts p) v c.args.path.now) (sym c.in-List.is))
+
+pub reached-returns-in-Map-clause-value : goal.reached-returns-in-Map-clause-value
+reached-returns-in-Map-clause-value t c =
+    let p = regex_source c.args.pattern.now in
+    carried c.pairs_reached.result _ _ c.pairs_reached.ensures.value (ap (λ l. map_reached (starts p) (reached_pairs (starts p) l) c.args.path.now) c.as_slice-in-Map.ensures.value
+    ∙ sym (reached-Map (starts p) c.in-Map.fields c.args.path.now) ∙ ap (λ v. reached (starts p) v c.args.path.now) (sym c.in-Map.is))

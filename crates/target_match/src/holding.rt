@@ -1,0 +1,50 @@
+//! Whether a ready tree holds for a minion.
+ghost use Rattle.std.specs.Prelude.{◌≡◌, IfOk};
+ghost use Rattle.target_match.specs.Holds.{holds};
+ghost use Rattle.target_match.specs.Ready.{target_of};
+
+use crate::data::pairs_meet;
+use crate::ids::contains;
+use crate::ready::Ready;
+use crate::search::Search;
+use salt_glob::glob;
+use salt_value::{MinionId, Text, Value};
+use std::alloc::{AllocError, Global};
+
+#[cycle(holds)]
+pub fn holds<'m>(
+    alloc: Global,
+    ready: &'m Ready,
+    searches: &mut Vec<Search<'m>>,
+    id: &MinionId,
+    grains: &[(Text, Value)],
+    pillar: &[(Text, Value)],
+) -> Result<bool, AllocError>
+    ensures { IfOk result (λ b. b ≡ holds (target_of ready.now) id.now grains.now pillar.now) }
+{
+    match ready {
+        Ready::IdGlob(text) => Ok(glob(text.as_bytes(), id.as_bytes())),
+        Ready::IdPcre(pattern) => pattern.holds(alloc, searches, id.as_str()),
+        Ready::IdList(ids) => Ok(contains(ids.as_slice(), id.as_bytes())),
+        Ready::GrainGlob(text) => pairs_meet(alloc, grains, text.as_str()),
+        Ready::GrainPcre(pattern) => pattern.holds(alloc, searches, grains),
+        Ready::PillarGlob(text) => pairs_meet(alloc, pillar, text.as_str()),
+        Ready::PillarPcre(pattern) => pattern.holds(alloc, searches, pillar),
+        Ready::Not(one) => {
+            let holds = holds(alloc, one.get(), searches, id, grains, pillar)?;
+            Ok(!holds)
+        }
+        Ready::And(left, right) => {
+            if !holds(alloc, left.get(), searches, id, grains, pillar)? {
+                return Ok(false);
+            }
+            holds(alloc, right.get(), searches, id, grains, pillar)
+        }
+        Ready::Or(left, right) => {
+            if holds(alloc, left.get(), searches, id, grains, pillar)? {
+                return Ok(true);
+            }
+            holds(alloc, right.get(), searches, id, grains, pillar)
+        }
+    }
+}

@@ -1,0 +1,92 @@
+//! A target that is ready for matching.
+ghost use Rattle.std.specs.Prelude.{◌≡◌, ℕ, [], IfOk, IsErrOf};
+ghost use Rattle.target_match.specs.Holds.{Data, holds, decided, patterns, AreReadable, IsBadAt};
+
+use crate::BuildFault;
+use crate::building::ready;
+use crate::holding::holds;
+use crate::ids::by_id;
+use crate::ready::Ready;
+use crate::search::Searches;
+use salt_value::{Fields, MinionId};
+use std::alloc::{AllocError, Global};
+use std::marker::Model;
+use target_tree::Target;
+
+/// A target with what can be made of it once for all minions. Contracts see the target.
+#[derive(Drop)]
+pub struct Matcher {
+    alloc: Global,
+    ready: Ready,
+}
+
+impl Model for Matcher {
+    ghost use Rattle.target_tree.specs.declared.target.Target.{Target};
+    ghost use Rattle.target_tree.specs.contracts.target.Target as target;
+    ghost use Rattle.std.specs.Coded.{codes};
+    ghost use Rattle.target_match.specs.Ready.{target_of};
+
+    ghost Value = { Target };
+
+    ghost coded = { Prim.hlevel (codes, target.the_row.coded) };
+
+    ghost view = { λ m. target_of m.ready };
+}
+
+impl Matcher {
+    /// Makes a copy of the target ready. `BadPattern` names the first leaf whose pattern isn't readable; a pattern that grows
+    /// past the limit of its tables is want of memory, and so is a target of more than 65,535 leaves.
+    pub fn build(alloc: Global, target: &Target) -> Result<Matcher, BuildFault>
+        ensures ok { IfOk result (λ m. m ≡ target.now) }
+        ensures readable { IfOk result (λ _. AreReadable (patterns target.now)) }
+        ensures bad { (leaf : ℕ) → IsErrOf result (BuildFault.BadPattern leaf) → IsBadAt (patterns target.now) leaf }
+    {
+        let mut leaves = 0;
+        let ready = ready(alloc, target, &mut leaves)?;
+        Ok(Matcher { alloc, ready })
+    }
+
+    /// What the id alone decides: Some exactly where every leaf is a glob of the id or a list of ids, and then what `holds`
+    /// answers. It takes no memory.
+    pub fn holds_id(&self, id: &MinionId) -> Option<bool>
+        ensures { (grains pillar : Data) → result ≡ decided self.now id.now grains pillar }
+    {
+        by_id(&self.ready, id.as_bytes())
+    }
+
+    /// Whether the target holds for a minion with this id, these grains and this pillar (Salt documentation, Targeting Minions).
+    /// It takes memory for the digits of numbers and for the searches of patterns alone.
+    pub fn holds(&self, id: &MinionId, grains: &Fields, pillar: &Fields) -> Result<bool, AllocError>
+        ensures { IfOk result (λ b. b ≡ holds self.now id.now grains.now pillar.now) }
+    {
+        let mut searches = self.searches();
+        self.holds_with(&mut searches, id, grains, pillar)
+    }
+
+    /// Room for the searches of this matcher's patterns. None is made yet.
+    pub fn searches(&self) -> Searches<'_>
+        ensures { result ≡ [] }
+    {
+        Searches::new(self.alloc)
+    }
+
+    /// What `holds` answers. A search that it makes stays for the next minion, also after want of memory.
+    pub fn holds_with<'m>(
+        &'m self,
+        searches: &mut Searches<'m>,
+        id: &MinionId,
+        grains: &Fields,
+        pillar: &Fields,
+    ) -> Result<bool, AllocError>
+        ensures { IfOk result (λ b. b ≡ holds self.now id.now grains.now pillar.now) }
+    {
+        holds(
+            self.alloc,
+            &self.ready,
+            &mut searches.made,
+            id,
+            grains.as_slice(),
+            pillar.as_slice(),
+        )
+    }
+}
