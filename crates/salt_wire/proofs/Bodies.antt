@@ -1,0 +1,85 @@
+-- Whole bodies, and fields at a place of a body.
+use Rattle.std.proofs.Common.{◌≡◌, ℕ, suc, ◌+◌, ◌-◌, ◌≤◌, Bool, true, false, cond, eqb, List, [], ◌∷◌, ◌++◌, length, drop, Result, Ok, Err, refl, sym, ap, subst, ◌∙◌, arith, length-append, length-drop}
+use Rattle.std.specs.Prelude.{IfOk}
+use Rattle.std.proofs.lemmas.Bool.{eqb-true}
+use Rattle.std.proofs.lemmas.List.{append-nil, get_or-drop}
+use Rattle.salt_value.specs.Decoding.{◌>>=◌, IsBytes}
+use Rattle.salt_wire.specs.declared.fault.Misread.{Misread}
+use Rattle.salt_wire.specs.declared.fault.Misread.TheVariants.{BadVersion, Trailing}
+use Rattle.salt_wire.specs.declared.fault.WireFault.{WireFault}
+use Rattle.salt_wire.specs.declared.fault.WireFault.TheVariants as faults
+use Rattle.salt_wire.specs.declared.message.Message.{Message}
+use Rattle.salt_wire.specs.Spelling.{body, kind_and_fields as spelled}
+use Rattle.salt_wire.specs.Limits.{Within}
+use Rattle.salt_wire.specs.Decoding.{Reader, Answers, kind_and_fields, nothing_after, message_at, turned, decoded, up_to, field_at}
+use Rattle.salt_wire.specs.RoundTrip.{IsReadBack, Spans}
+use Rattle.salt_wire.proofs.Codec.{bind_ok, ok_is}
+
+turned_ok : {A : Type 0} (n : ℕ) (r : Result A Misread) (x : A) → turned n r ≡ Ok x → r ≡ Ok x
+turned_ok n (Ok y) x e = cc
+turned_ok n (Err f) x e = absurd cc
+
+abbrev pub Found : List ℕ → Message → Type 0
+Found b x = Within x × (b ≡ body x)
+
+no_more : (xs : List ℕ) → length xs ≡ 0 → xs ≡ []
+no_more [] e = refl
+no_more (x ∷ xs) e = absurd (omega arith)
+
+module _ (law : IsReadBack spelled Within kind_and_fields) where
+  pub message_again : (x : Message) → Within x → decoded (body x) ≡ Ok x
+  unfolding decoded message_at
+  message_again x h =
+      ap (λ r. turned (length (body x)) (r >>= nothing_after)) (ap kind_and_fields (sym (append-nil (spelled x))) ∙ law.written x [] h)
+
+  nothing_after_ok : (a : Message × List ℕ) (x : Message) → nothing_after a ≡ Ok x → (a.0 ≡ x) × (a.1 ≡ [])
+  nothing_after_ok a x e = by (eqb (length a.1) 0) (eqb-true (length a.1) 0) e where
+    by : (c : Bool) → (c ≡ true → length a.1 ≡ 0) → cond c (Ok a.0) (Err (Trailing (length a.1))) ≡ Ok x → (a.0 ≡ x) × (a.1 ≡ [])
+    by true h e = (ok_is a.0 x e, no_more a.1 (h refl))
+    by false h e = absurd cc
+
+  message_took : (b : List ℕ) (x : Message) → IsBytes b → message_at b ≡ Ok x → Found b x
+  unfolding message_at
+  message_took [] x h e = absurd cc
+  message_took (version ∷ b) x h e = by (eqb version 1) (eqb-true version 1) e where
+    by : (c : Bool) → (c ≡ true → version ≡ 1) → cond c (kind_and_fields b >>= nothing_after) (Err BadVersion) ≡ Ok x → Found (version ∷ b) x
+    by true v e =
+        let a = bind_ok (kind_and_fields b) nothing_after x e in
+        let n = nothing_after_ok a.0 x a.2 in
+        let t = law.took b a.0 (λ i. h (suc i)) a.1 in
+        let parts : b ≡ spelled a.0.0 = t.1 ∙ ap (λ (r : List ℕ). spelled a.0.0 ++ r) n.1 ∙ append-nil (spelled a.0.0) in
+        subst (Found (version ∷ b)) n.0 (t.0, ap (λ (k : ℕ). k ∷ b) (v refl) ∙ ap (λ (r : List ℕ). 1 ∷ r) parts)
+    by false v e = absurd cc
+
+  pub decoded_took : (b : List ℕ) (r : Result Message WireFault) → IsBytes b → Answers r (decoded b) → IfOk r (λ x. Within x × (b ≡ body x))
+  unfolding decoded
+  decoded_took b (Ok x) h given = message_took b x h (turned_ok (length b) (message_at b) x given)
+  decoded_took b (Err f) h given = tt
+
+module _ {A : Type 0} (spell : A → List ℕ) (Right : A → Type 0) (read : Reader A) (law : IsReadBack spell Right read) where
+  pub field_again : (b : List ℕ) (at : ℕ) (x : A) (rest : List ℕ) → at ≤ length b → Right x → drop at b ≡ spell x ++ rest → field_at read b at ≡ Ok (x, at + length (spell x))
+  unfolding field_at
+  field_again b at x rest le h e =
+      let len : length b - at ≡ length (spell x) + length rest = sym (length-drop at b) ∙ ap length e ∙ length-append (spell x) rest in
+      let place : length b - length rest ≡ at + length (spell x) = omega (arith, len, le) in
+      ap (λ r. turned (length b) (r >>= λ x. Ok (up_to (length b) x))) (ap read e ∙ law.written x rest h) ∙ ap (λ (n : ℕ). Ok (x, n)) place
+
+  pub field_took : (b : List ℕ) (at : ℕ) (r : Result (A × ℕ) WireFault) → IsBytes b → at ≤ length b → Answers r (field_at read b at) → IfOk r (λ x. Right x.0 × Spans spell b at x)
+  unfolding field_at
+  field_took b at (Err f) h le given = tt
+  field_took b at (Ok y) h le given =
+      let a = bind_ok (read (drop at b)) (λ x. Ok (up_to (length b) x)) y (turned_ok (length b) _ y given) in
+      let t = law.took (drop at b) a.0 (λ i. rw get_or-drop (h (at + i))) a.1 in
+      let len : length b - at ≡ length (spell a.0.0) + length a.0.1 = sym (length-drop at b) ∙ ap length t.1 ∙ length-append (spell a.0.0) a.0.1 in
+      let place : length b - length a.0.1 ≡ at + length (spell a.0.0) = omega (arith, len, le) in
+      let made : A × ℕ = up_to (length b) a.0 in
+      subst (λ (x : A × ℕ). Right x.0 × Spans spell b at x) (ok_is made y a.2) (t.0, (place, (a.0.1, t.1)))
+
+-- what is the answer is an answer
+pub answers : {A : Type 0} (r s : Result A WireFault) → r ≡ s → Answers r s
+answers (Ok x) s e = sym e
+answers (Err faults.NoMemory) s e = tt
+answers (Err faults.BadVersion) s e = sym e
+answers (Err faults.BadKind) s e = sym e
+answers (Err (faults.BadField at)) s e = sym e
+answers (Err (faults.Trailing at)) s e = sym e

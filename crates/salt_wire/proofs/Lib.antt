@@ -1,0 +1,10 @@
+pub mod Bodies
+pub mod Codec
+pub mod FieldFaults
+pub mod FieldLemmas
+pub mod LoopLemmas
+pub mod MessageBack
+pub mod TreeBack
+pub mod TreeLayers
+pub mod TreeSteps
+pub mod WriteLemmas

@@ -1,0 +1,10 @@
+use Rattle.std.proofs.Common.{ap, subst, ◌∙◌, arith}
+use Rattle.salt_wire.specs.Decoding.{Answers, decoded}
+use Rattle.salt_wire.proofs.Bodies.{message_again, decoded_took}
+use Rattle.salt_wire.proofs.wire.decode.Goals as goal
+
+pub returns-clause-found : goal.returns-clause-found
+returns-clause-found c = decoded_took c.messages_read_back.ensures.messages c.args.body.now c.whole.result (λ i. omega (arith, c.type_inv.body i)) c.whole.ensures
+
+pub returns-clause-only : goal.returns-clause-only
+returns-clause-only c = λ x fits e. subst (λ r. Answers c.whole.result r) (ap decoded e ∙ message_again c.messages_read_back.ensures.messages x fits) c.whole.ensures

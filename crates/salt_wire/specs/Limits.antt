@@ -1,0 +1,114 @@
+-- Which messages have a body, by cases on the message.
+use Rattle.std.specs.Prelude.{◌≡◌, ◌<◌, ◌≤◌, ◌+◌, ◌^◌, ◌&&◌, ◌||◌, ◌==◌, nat_le, ℕ, Bool, true, List, length}
+use Rattle.std.specs.List.{list_all}
+use Rattle.salt_value.specs.Id.{is_id_byte, IsId}
+use Rattle.salt_value.specs.Word.{IsWord}
+use Rattle.salt_value.specs.Jid.{greatest_jid}
+use Rattle.salt_value.specs.WellFormed.{Fits, is_text}
+use Rattle.salt_value.specs.declared.value.Value.TheVariants as v
+use Rattle.target_tree.specs.declared.target.Target.{Target, fold-Target}
+use Rattle.target_tree.specs.declared.target.Target.TheOpen.{Target-F}
+use Rattle.salt_wire.specs.Spelling.{tree}
+use Rattle.salt_wire.specs.declared.message.Job.{Job}
+use Rattle.salt_wire.specs.declared.message.Entry.{Entry}
+use Rattle.salt_wire.specs.declared.message.Entry.TheVariants.{Return, Fired, Start, Mine}
+use Rattle.salt_wire.specs.declared.message.Message.{Message}
+use Rattle.salt_wire.specs.declared.message.Message.TheVariants.{Pub, Have, Up, UpHave, Hello, End, AskPublish, AskReport, AskJobs, AskMine, Answer}
+
+-- 1 to 64 bytes that ids have
+abbrev pub is_id : List ℕ → Bool
+is_id bytes = nat_le 1 (length bytes) && (nat_le (length bytes) 64 && list_all is_id_byte bytes)
+
+-- the text of a leaf: 1 to 4,096 bytes
+abbrev pub is_leaf_text : List ℕ → Bool
+is_leaf_text text = is_text text && (nat_le 1 (length text) && nat_le (length text) 4096)
+
+-- one layer of a tree, where for each part stands whether it is right
+abbrev pub right_layer : Target-F Bool → Bool
+right_layer (Target-F.IdGlob glob) = is_leaf_text glob
+right_layer (Target-F.IdPcre pattern) = is_leaf_text pattern
+right_layer (Target-F.IdList ids) = nat_le 1 (length ids) && (nat_le (length ids) 65535 && list_all is_id ids)
+right_layer (Target-F.GrainGlob glob) = is_leaf_text glob
+right_layer (Target-F.GrainPcre pattern) = is_leaf_text pattern
+right_layer (Target-F.PillarGlob glob) = is_leaf_text glob
+right_layer (Target-F.PillarPcre pattern) = is_leaf_text pattern
+right_layer (Target-F.Not part) = part
+right_layer (Target-F.And left right) = left && right
+right_layer (Target-F.Or left right) = left && right
+
+-- one layer of a tree, with the number of nodes of each part in the part's place
+abbrev pub nodes_layer : Target-F ℕ → ℕ
+nodes_layer (Target-F.Not part) = 1 + part
+nodes_layer (Target-F.And left right) = 1 + (left + right)
+nodes_layer (Target-F.Or left right) = 1 + (left + right)
+nodes_layer leaf = 1
+
+-- one layer of a tree, with the number of pattern leaves of each part in the part's place
+abbrev pub patterns_layer : Target-F ℕ → ℕ
+patterns_layer (Target-F.IdPcre pattern) = 1
+patterns_layer (Target-F.GrainPcre pattern) = 1
+patterns_layer (Target-F.PillarPcre pattern) = 1
+patterns_layer (Target-F.Not part) = part
+patterns_layer (Target-F.And left right) = left + right
+patterns_layer (Target-F.Or left right) = left + right
+patterns_layer leaf = 0
+
+-- each leaf has its right text or ids
+abbrev pub right : Target → Bool
+right = fold-Target Bool right_layer
+
+-- how many nodes a tree has, and how many pattern leaves
+abbrev pub nodes : Target → ℕ
+nodes = fold-Target ℕ nodes_layer
+
+abbrev pub patterns : Target → ℕ
+patterns = fold-Target ℕ patterns_layer
+
+-- a tree within the limits: 256 nodes, 16 pattern leaves, 65,536 bytes, and leaves that are right
+pub record TreeFits (t : Target) : Type 0 where
+  pub few_nodes : nodes t ≤ 256
+  pub few_patterns : patterns t ≤ 16
+  pub long : length (tree t) ≤ 65536
+  pub right_leaves : right t ≡ true
+
+-- a number of 32 bits
+abbrev pub IsNumber : ℕ → Type 0
+IsNumber n = n < 2 ^ 32
+
+-- a text
+abbrev pub IsText : List ℕ → Type 0
+IsText text = is_text text ≡ true
+
+-- a job within the limits
+pub record JobFits (j : Job) : Type 0 where
+  pub jid : j.jid ≤ greatest_jid
+  pub tgt : IsText j.tgt
+  pub tgt_long : length j.tgt ≤ 4096
+  pub target : TreeFits j.target
+  pub fun : IsWord j.fun
+  pub args : Fits (v.List j.args)
+
+-- an entry within the limits
+abbrev pub EntryFits : Entry → Type 0
+EntryFits (Return seq outcome) = IsNumber seq × (outcome.retcode < 256) × Fits outcome.value
+EntryFits (Fired event) = IsWord event.tag × Fits event.body
+EntryFits (Start boot) = IsNumber boot
+EntryFits (Mine seq mine grains pillar) = IsNumber seq × Fits (v.Map mine) × Fits (v.Map grains) × Fits (v.Map pillar)
+
+-- the status of an answer to a client
+abbrev pub is_status : ℕ → Bool
+is_status n = n == 0 || (n == 1 || (n == 10 || (n == 11 || n == 12)))
+
+-- a message within the limits
+abbrev pub Within : Message → Type 0
+Within (Pub seq j) = IsNumber seq × JobFits j
+Within (Have jobs) = IsNumber jobs
+Within (Up minion n e) = IsId minion × IsNumber n × EntryFits e
+Within (UpHave minion n) = IsId minion × IsNumber n
+Within (Hello name) = IsId name
+Within End = Unit {0}
+Within (AskPublish kind tgt fun args) = IsText tgt × IsWord fun × Fits (v.List args)
+Within (AskReport jid) = jid ≤ greatest_jid
+Within AskJobs = Unit {0}
+Within (AskMine kind tgt fun) = IsText tgt × IsWord fun
+Within (Answer status report) = (is_status status ≡ true) × IsText report × (length report ≤ 1000000)

@@ -1,0 +1,25 @@
+//! Messages between the nodes of a fleet, as bytes.
+#![tactic(auto)]
+
+mod deed;
+mod fault;
+mod fields;
+mod laws;
+mod message;
+mod parts;
+mod reading;
+#[cfg(test)]
+mod tests;
+mod tree;
+mod whole;
+mod wire;
+mod writing;
+
+pub use deed::{Changed, Deed, Entries, ReactDeed, ReactDeeds};
+pub use fault::WireFault;
+pub use laws::messages_read_back;
+pub use message::{Entry, Event, Job, Message};
+pub use wire::{
+    decode, encode, read_entry, read_id, read_job, read_word, write_entry, write_id, write_job,
+    write_word,
+};

@@ -1,0 +1,176 @@
+// The public calls.
+ghost use Rattle.std.specs.Prelude.{◌≡◌, ◌≤◌, ◌+◌, ◌++◌, List, ℕ, length, drop, Ok, IfOk, IfErr, OnOk, OnErr};
+ghost use Rattle.salt_value.specs.Id.{IsId};
+ghost use Rattle.salt_value.specs.Word.{IsWord};
+ghost use Rattle.salt_wire.specs.Spelling as spelling;
+ghost use Rattle.salt_wire.specs.Limits.{JobFits, EntryFits, Within};
+ghost use Rattle.salt_wire.specs.Decoding.{Answers, IsFieldFault, field_at, decoded, id_field, word_field, job_field, entry_field};
+ghost use Rattle.salt_wire.specs.RoundTrip.{Spans};
+ghost use Rattle.salt_wire.specs.declared.message.Job.{Job};
+ghost use Rattle.salt_wire.specs.declared.message.Entry.{Entry};
+ghost use Rattle.salt_wire.specs.declared.message.Message.{Message};
+
+use crate::fault::WireFault;
+use crate::laws::messages_read_back;
+use crate::message::{Entry, Job, Message};
+use crate::whole::{entry_from, id_from, job_from, whole, word_from};
+use crate::writing::{put_entry, put_id, put_job, put_message, put_word};
+use salt_value::{MinionId, Word};
+use std::alloc::{AllocError, Global};
+
+/// The message that this body is, or its first fault from the left.
+pub fn decode(alloc: Global, body: &[u8]) -> Result<Message, WireFault>
+    // What is decoded is within its limits and has this body.
+    ensures found { IfOk result (λ message. Within message × (body.now ≡ spelling.body message)) }
+    // A message within its limits that has this body is decoded, unless memory runs out.
+    ensures only { (message : Message) → Within message → body.now ≡ spelling.body message → Answers result (Ok message) }
+    // All of this, with the faults and their places, as a function.
+    ensures exact { Answers result (decoded body.now) }
+{
+    messages_read_back();
+    whole(alloc, body)
+}
+
+/// Appends the body of a message that is within its limits. An error leaves all as it was.
+pub fn encode(message: &Message, out: &mut Vec<u8>) -> Result<(), AllocError>
+    requires { Within message.now }
+    ensures ok { OnOk result (out.new.items ≡ out.old.items ++ spelling.body message.now) }
+    ensures err { OnErr result (out.new.items ≡ out.old.items) }
+{
+    let before = out.len();
+    match put_message(out, message) {
+        Ok(()) => Ok(()),
+        Err(e) => {
+            out.truncate(before);
+            Err(e)
+        }
+    }
+}
+
+/// Appends an id, after the byte of its length. An error leaves all as it was.
+pub fn write_id(id: &MinionId, out: &mut Vec<u8>) -> Result<(), AllocError>
+    ensures ok { OnOk result (out.new.items ≡ out.old.items ++ spelling.id id.now) }
+    ensures err { OnErr result (out.new.items ≡ out.old.items) }
+{
+    let before = out.len();
+    match put_id(out, id) {
+        Ok(()) => Ok(()),
+        Err(e) => {
+            out.truncate(before);
+            Err(e)
+        }
+    }
+}
+
+/// Appends a word, after the two bytes of its length. An error leaves all as it was.
+pub fn write_word(word: &Word, out: &mut Vec<u8>) -> Result<(), AllocError>
+    ensures ok { OnOk result (out.new.items ≡ out.old.items ++ spelling.word word.now) }
+    ensures err { OnErr result (out.new.items ≡ out.old.items) }
+{
+    let before = out.len();
+    match put_word(out, word) {
+        Ok(()) => Ok(()),
+        Err(e) => {
+            out.truncate(before);
+            Err(e)
+        }
+    }
+}
+
+/// Appends a job that is within its limits. An error leaves all as it was.
+pub fn write_job(job: &Job, out: &mut Vec<u8>) -> Result<(), AllocError>
+    requires { JobFits job.now }
+    ensures ok { OnOk result (out.new.items ≡ out.old.items ++ spelling.job job.now) }
+    ensures err { OnErr result (out.new.items ≡ out.old.items) }
+{
+    let before = out.len();
+    match put_job(out, job) {
+        Ok(()) => Ok(()),
+        Err(e) => {
+            out.truncate(before);
+            Err(e)
+        }
+    }
+}
+
+/// Appends an entry that is within its limits. An error leaves all as it was.
+pub fn write_entry(entry: &Entry, out: &mut Vec<u8>) -> Result<(), AllocError>
+    requires { EntryFits entry.now }
+    ensures ok { OnOk result (out.new.items ≡ out.old.items ++ spelling.entry entry.now) }
+    ensures err { OnErr result (out.new.items ≡ out.old.items) }
+{
+    let before = out.len();
+    match put_entry(out, entry) {
+        Ok(()) => Ok(()),
+        Err(e) => {
+            out.truncate(before);
+            Err(e)
+        }
+    }
+}
+
+/// The id that begins at a place of a body, and the place after it; else `BadField` there.
+pub fn read_id(body: &[u8], at: usize) -> Result<(MinionId, usize), WireFault>
+    requires { at ≤ length body.now }
+    // What is read is an id and stands between the two places.
+    ensures found { IfOk result (λ x. IsId x.0 × Spans spelling.id body.now at x) }
+    // An id that stands there is read.
+    ensures only { (x : List ℕ) (rest : List ℕ) → IsId x → drop at body.now ≡ spelling.id x ++ rest → result ≡ Ok (x, at + length (spelling.id x)) }
+    // Of the named faults it has BadField alone.
+    ensures field { IfErr result IsFieldFault }
+    // All of this, with the faults and their places, as a function.
+    ensures exact { result ≡ field_at id_field body.now at }
+{
+    messages_read_back();
+    id_from(body, at)
+}
+
+/// The word that begins at a place of a body, and the place after it; else `BadField` there.
+pub fn read_word(alloc: Global, body: &[u8], at: usize) -> Result<(Word, usize), WireFault>
+    requires { at ≤ length body.now }
+    // What is read is within its limits and stands between the two places.
+    ensures found { IfOk result (λ x. IsWord x.0 × Spans spelling.word body.now at x) }
+    // One within its limits that stands there is read, unless memory runs out.
+    ensures only { (x : List ℕ) (rest : List ℕ) → IsWord x → drop at body.now ≡ spelling.word x ++ rest → Answers result (Ok (x, at + length (spelling.word x))) }
+    // Of the named faults it has BadField alone.
+    ensures field { IfErr result IsFieldFault }
+    // All of this, with the faults and their places, as a function.
+    ensures exact { Answers result (field_at word_field body.now at) }
+{
+    messages_read_back();
+    word_from(alloc, body, at)
+}
+
+/// The job that begins at a place of a body, and the place after it; else `BadField` at the first
+/// byte of its first field that isn't whole or breaks its rule.
+pub fn read_job(alloc: Global, body: &[u8], at: usize) -> Result<(Job, usize), WireFault>
+    requires { at ≤ length body.now }
+    // What is read is within its limits and stands between the two places.
+    ensures found { IfOk result (λ x. JobFits x.0 × Spans spelling.job body.now at x) }
+    // One within its limits that stands there is read, unless memory runs out.
+    ensures only { (x : Job) (rest : List ℕ) → JobFits x → drop at body.now ≡ spelling.job x ++ rest → Answers result (Ok (x, at + length (spelling.job x))) }
+    // Of the named faults it has BadField alone.
+    ensures field { IfErr result IsFieldFault }
+    // All of this, with the faults and their places, as a function.
+    ensures exact { Answers result (field_at job_field body.now at) }
+{
+    messages_read_back();
+    job_from(alloc, body, at)
+}
+
+/// The entry that begins at a place of a body, and the place after it; else `BadField` at the first
+/// byte of its first field that isn't whole or breaks its rule.
+pub fn read_entry(alloc: Global, body: &[u8], at: usize) -> Result<(Entry, usize), WireFault>
+    requires { at ≤ length body.now }
+    // What is read is within its limits and stands between the two places.
+    ensures found { IfOk result (λ x. EntryFits x.0 × Spans spelling.entry body.now at x) }
+    // One within its limits that stands there is read, unless memory runs out.
+    ensures only { (x : Entry) (rest : List ℕ) → EntryFits x → drop at body.now ≡ spelling.entry x ++ rest → Answers result (Ok (x, at + length (spelling.entry x))) }
+    // Of the named faults it has BadField alone.
+    ensures field { IfErr result IsFieldFault }
+    // All of this, with the faults and their places, as a function.
+    ensures exact { Answers result (field_at entry_field body.now at) }
+{
+    messages_read_back();
+    entry_from(alloc, body, at)
+}

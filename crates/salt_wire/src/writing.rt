@@ -1,0 +1,339 @@
+// Messages written as bytes. After an error some of the bytes may stand at the end.
+ghost use Rattle.std.specs.Prelude.{◌≡◌, ◌<◌, ◌≤◌, ◌^◌, ◌++◌, ◌∷◌, true, List, ℕ, length, map, OnOk, OnErr};
+ghost use Rattle.std.specs.Int.{w16, w64, to_be_bytes};
+ghost use Rattle.salt_value.specs.Spelling.{bytes, text as spelled_text, joined};
+ghost use Rattle.target_tree.specs.Kinds.{code_of};
+ghost use Rattle.salt_value.specs.WellFormed.{Fits};
+ghost use Rattle.salt_value.specs.declared.value.Value.TheVariants as v;
+ghost use Rattle.salt_wire.specs.Spelling as spelling;
+ghost use Rattle.salt_wire.specs.declared.message.Message.TheVariants as m;
+ghost use Rattle.salt_wire.specs.Limits.{IsText, JobFits, EntryFits, Within};
+ghost use Rattle.salt_wire.specs.Limits as limits;
+
+use crate::message::{Entry, Job, Message};
+use salt_value::{Jid, MinionId, Text, Value, Word, put_text, put_u16, put_u32, put_u64};
+use std::alloc::AllocError;
+use target_tree::{Kind, Target};
+
+// An id, after the byte of its length.
+pub fn put_id(out: &mut Vec<u8>, id: &MinionId) -> Result<(), AllocError>
+    ensures ok { OnOk result (out.new.items ≡ out.old.items ++ spelling.id id.now) }
+    ensures err { OnErr result ((more : List ℕ) × (out.new.items ≡ out.old.items ++ more)) }
+{
+    let bytes = id.as_bytes();
+    out.push(bytes.len() as u8)?;
+    out.extend_from_slice(bytes)
+}
+
+// A word, after the two bytes of its length.
+pub fn put_word(out: &mut Vec<u8>, word: &Word) -> Result<(), AllocError>
+    ensures ok { OnOk result (out.new.items ≡ out.old.items ++ spelling.word word.now) }
+    ensures err { OnErr result ((more : List ℕ) × (out.new.items ≡ out.old.items ++ more)) }
+{
+    let bytes = word.as_bytes();
+    put_u16(out, bytes.len() as u16)?;
+    out.extend_from_slice(bytes)
+}
+
+// A list of values.
+fn put_items(out: &mut Vec<u8>, items: &[Value]) -> Result<(), AllocError>
+    requires { Fits (v.List items.now) }
+    ensures ok { OnOk result (out.new.items ≡ out.old.items ++ bytes (v.List items.now)) }
+    ensures err { OnErr result ((more : List ℕ) × (out.new.items ≡ out.old.items ++ more)) }
+{
+    out.push(5)?;
+    put_u32(out, items.len() as u32)?;
+    for item in items {
+        item.write(out)?;
+    }
+    Ok(())
+}
+
+// A key and its value.
+fn put_pair(out: &mut Vec<u8>, key: &Text, value: &Value) -> Result<(), AllocError>
+    requires { (length key.now < 2 ^ 32) × Fits value.now }
+    ensures ok { OnOk result (out.new.items ≡ out.old.items ++ (spelled_text key.now ++ bytes value.now)) }
+    ensures err { OnErr result ((more : List ℕ) × (out.new.items ≡ out.old.items ++ more)) }
+{
+    put_text(out, key.as_bytes())?;
+    value.write(out)?;
+    Ok(())
+}
+
+// A map of values.
+fn put_fields(out: &mut Vec<u8>, pairs: &[(Text, Value)]) -> Result<(), AllocError>
+    requires { Fits (v.Map pairs.now) }
+    ensures ok { OnOk result (out.new.items ≡ out.old.items ++ bytes (v.Map pairs.now)) }
+    ensures err { OnErr result ((more : List ℕ) × (out.new.items ≡ out.old.items ++ more)) }
+{
+    out.push(6)?;
+    put_u32(out, pairs.len() as u32)?;
+    for (key, value) in pairs {
+        put_pair(out, key, value)?;
+    }
+    Ok(())
+}
+
+// Ids, after the two bytes of their number.
+fn put_ids(out: &mut Vec<u8>, ids: &[MinionId]) -> Result<(), AllocError>
+    requires { length ids.now ≤ 65535 }
+    ensures ok { OnOk result (out.new.items ≡ out.old.items ++ (to_be_bytes w16 (length ids.now) ++ joined (map spelling.id ids.now))) }
+    ensures err { OnErr result ((more : List ℕ) × (out.new.items ≡ out.old.items ++ more)) }
+{
+    put_u16(out, ids.len() as u16)?;
+    for id in ids {
+        put_id(out, id)?;
+    }
+    Ok(())
+}
+
+// A tag and a text.
+fn put_leaf(out: &mut Vec<u8>, tag: u8, text: &Text) -> Result<(), AllocError>
+    requires { length text.now < 2 ^ 32 }
+    ensures ok { OnOk result (out.new.items ≡ out.old.items ++ tag ∷ spelled_text text.now) }
+    ensures err { OnErr result ((more : List ℕ) × (out.new.items ≡ out.old.items ++ more)) }
+{
+    out.push(tag)?;
+    put_text(out, text.as_bytes())
+}
+
+// A target's tree.
+fn put_tree(out: &mut Vec<u8>, tree: &Target) -> Result<(), AllocError>
+    requires { limits.right tree.now ≡ true }
+    ensures ok { OnOk result (out.new.items ≡ out.old.items ++ spelling.tree tree.now) }
+    ensures err { OnErr result ((more : List ℕ) × (out.new.items ≡ out.old.items ++ more)) }
+{
+    match tree {
+        Target::IdGlob(glob) => put_leaf(out, 1, glob)?,
+        Target::IdPcre(pattern) => put_leaf(out, 2, pattern)?,
+        Target::IdList(ids) => {
+            out.push(3)?;
+            put_ids(out, ids.as_slice())?;
+        }
+        Target::GrainGlob(glob) => put_leaf(out, 4, glob)?,
+        Target::GrainPcre(pattern) => put_leaf(out, 5, pattern)?,
+        Target::PillarGlob(glob) => put_leaf(out, 6, glob)?,
+        Target::PillarPcre(pattern) => put_leaf(out, 7, pattern)?,
+        Target::Not(part) => {
+            out.push(8)?;
+            put_tree(out, part.get())?;
+        }
+        Target::And(left, right) => {
+            out.push(9)?;
+            put_tree(out, left.get())?;
+            put_tree(out, right.get())?;
+        }
+        Target::Or(left, right) => {
+            out.push(10)?;
+            put_tree(out, left.get())?;
+            put_tree(out, right.get())?;
+        }
+    }
+    Ok(())
+}
+
+// A function's name and its arguments.
+fn put_call(out: &mut Vec<u8>, fun: &Word, args: &[Value]) -> Result<(), AllocError>
+    requires { Fits (v.List args.now) }
+    ensures ok { OnOk result (out.new.items ≡ out.old.items ++ (spelling.word fun.now ++ bytes (v.List args.now))) }
+    ensures err { OnErr result ((more : List ℕ) × (out.new.items ≡ out.old.items ++ more)) }
+{
+    put_word(out, fun)?;
+    put_items(out, args)?;
+    Ok(())
+}
+
+// A job.
+pub fn put_job(out: &mut Vec<u8>, job: &Job) -> Result<(), AllocError>
+    requires { JobFits job.now }
+    ensures ok { OnOk result (out.new.items ≡ out.old.items ++ spelling.job job.now) }
+    ensures err { OnErr result ((more : List ℕ) × (out.new.items ≡ out.old.items ++ more)) }
+{
+    put_u64(out, job.jid.micros())?;
+    out.push(job.kind.code())?;
+    put_text(out, job.tgt.as_bytes())?;
+    put_tree(out, &job.target)?;
+    put_call(out, &job.fun, job.args.as_slice())?;
+    Ok(())
+}
+
+// An entry.
+pub fn put_entry(out: &mut Vec<u8>, entry: &Entry) -> Result<(), AllocError>
+    requires { EntryFits entry.now }
+    ensures ok { OnOk result (out.new.items ≡ out.old.items ++ spelling.entry entry.now) }
+    ensures err { OnErr result ((more : List ℕ) × (out.new.items ≡ out.old.items ++ more)) }
+{
+    match entry {
+        Entry::Return { seq, outcome } => {
+            out.push(1)?;
+            put_u32(out, *seq)?;
+            out.push(outcome.retcode)?;
+            outcome.value.write(out)?;
+        }
+        Entry::Fired { event } => {
+            out.push(2)?;
+            put_word(out, &event.tag)?;
+            event.body.write(out)?;
+        }
+        Entry::Start { boot } => {
+            out.push(3)?;
+            put_u32(out, *boot)?;
+        }
+        Entry::Mine {
+            seq,
+            mine,
+            grains,
+            pillar,
+        } => {
+            out.push(4)?;
+            put_u32(out, *seq)?;
+            put_fields(out, mine.as_slice())?;
+            put_fields(out, grains.as_slice())?;
+            put_fields(out, pillar.as_slice())?;
+        }
+    }
+    Ok(())
+}
+
+// A kind of target, a text and a function's name.
+fn put_asked(out: &mut Vec<u8>, kind: Kind, tgt: &Text, fun: &Word) -> Result<(), AllocError>
+    requires { IsText tgt.now }
+    ensures ok { OnOk result (out.new.items ≡ out.old.items ++ code_of kind ∷ (spelled_text tgt.now ++ spelling.word fun.now)) }
+    ensures err { OnErr result ((more : List ℕ) × (out.new.items ≡ out.old.items ++ more)) }
+{
+    out.push(kind.code())?;
+    put_text(out, tgt.as_bytes())?;
+    put_word(out, fun)
+}
+
+fn put_pub(out: &mut Vec<u8>, seq: u32, job: &Job) -> Result<(), AllocError>
+    requires { Within (m.Pub seq job.now) }
+    ensures ok { OnOk result (out.new.items ≡ out.old.items ++ spelling.kind_and_fields (m.Pub seq job.now)) }
+    ensures err { OnErr result ((more : List ℕ) × (out.new.items ≡ out.old.items ++ more)) }
+{
+    out.push(1)?;
+    put_u32(out, seq)?;
+    put_job(out, job)?;
+    Ok(())
+}
+
+fn put_have(out: &mut Vec<u8>, jobs: u32) -> Result<(), AllocError>
+    ensures ok { OnOk result (out.new.items ≡ out.old.items ++ spelling.kind_and_fields (m.Have jobs)) }
+    ensures err { OnErr result ((more : List ℕ) × (out.new.items ≡ out.old.items ++ more)) }
+{
+    out.push(2)?;
+    put_u32(out, jobs)
+}
+
+fn put_up(out: &mut Vec<u8>, minion: &MinionId, n: u32, entry: &Entry) -> Result<(), AllocError>
+    requires { Within (m.Up minion.now n entry.now) }
+    ensures ok { OnOk result (out.new.items ≡ out.old.items ++ spelling.kind_and_fields (m.Up minion.now n entry.now)) }
+    ensures err { OnErr result ((more : List ℕ) × (out.new.items ≡ out.old.items ++ more)) }
+{
+    out.push(3)?;
+    put_id(out, minion)?;
+    put_u32(out, n)?;
+    put_entry(out, entry)
+}
+
+fn put_up_have(out: &mut Vec<u8>, minion: &MinionId, n: u32) -> Result<(), AllocError>
+    ensures ok { OnOk result (out.new.items ≡ out.old.items ++ spelling.kind_and_fields (m.UpHave minion.now n)) }
+    ensures err { OnErr result ((more : List ℕ) × (out.new.items ≡ out.old.items ++ more)) }
+{
+    out.push(4)?;
+    put_id(out, minion)?;
+    put_u32(out, n)
+}
+
+fn put_hello(out: &mut Vec<u8>, id: &MinionId) -> Result<(), AllocError>
+    ensures ok { OnOk result (out.new.items ≡ out.old.items ++ spelling.kind_and_fields (m.Hello id.now)) }
+    ensures err { OnErr result ((more : List ℕ) × (out.new.items ≡ out.old.items ++ more)) }
+{
+    out.push(5)?;
+    put_id(out, id)
+}
+
+fn put_ask_publish(
+    out: &mut Vec<u8>,
+    kind: Kind,
+    tgt: &Text,
+    fun: &Word,
+    args: &[Value],
+) -> Result<(), AllocError>
+    requires { Within (m.AskPublish kind tgt.now fun.now args.now) }
+    ensures ok { OnOk result (out.new.items ≡ out.old.items ++ spelling.kind_and_fields (m.AskPublish kind tgt.now fun.now args.now)) }
+    ensures err { OnErr result ((more : List ℕ) × (out.new.items ≡ out.old.items ++ more)) }
+{
+    out.push(0x10)?;
+    put_asked(out, kind, tgt, fun)?;
+    put_items(out, args)
+}
+
+fn put_ask_report(out: &mut Vec<u8>, jid: Jid) -> Result<(), AllocError>
+    ensures ok { OnOk result (out.new.items ≡ out.old.items ++ spelling.kind_and_fields (m.AskReport jid)) }
+    ensures err { OnErr result ((more : List ℕ) × (out.new.items ≡ out.old.items ++ more)) }
+{
+    out.push(0x11)?;
+    put_u64(out, jid.micros())
+}
+
+fn put_ask_mine(out: &mut Vec<u8>, kind: Kind, tgt: &Text, fun: &Word) -> Result<(), AllocError>
+    requires { Within (m.AskMine kind tgt.now fun.now) }
+    ensures ok { OnOk result (out.new.items ≡ out.old.items ++ spelling.kind_and_fields (m.AskMine kind tgt.now fun.now)) }
+    ensures err { OnErr result ((more : List ℕ) × (out.new.items ≡ out.old.items ++ more)) }
+{
+    out.push(0x13)?;
+    put_asked(out, kind, tgt, fun)
+}
+
+fn put_answer(out: &mut Vec<u8>, status: u8, text: &Text) -> Result<(), AllocError>
+    requires { Within (m.Answer status text.now) }
+    ensures ok { OnOk result (out.new.items ≡ out.old.items ++ spelling.kind_and_fields (m.Answer status text.now)) }
+    ensures err { OnErr result ((more : List ℕ) × (out.new.items ≡ out.old.items ++ more)) }
+{
+    out.push(0x14)?;
+    out.push(status)?;
+    put_text(out, text.as_bytes())
+}
+
+// The kind and the fields of a message.
+fn put_fields_of(out: &mut Vec<u8>, message: &Message) -> Result<(), AllocError>
+    requires { Within message.now }
+    ensures ok { OnOk result (out.new.items ≡ out.old.items ++ spelling.kind_and_fields message.now) }
+    ensures err { OnErr result ((more : List ℕ) × (out.new.items ≡ out.old.items ++ more)) }
+{
+    match message {
+        Message::Pub { seq, job } => put_pub(out, *seq, job),
+        Message::Have { jobs } => put_have(out, *jobs),
+        Message::Up { minion, n, entry } => put_up(out, minion, *n, entry),
+        Message::UpHave { minion, n } => put_up_have(out, minion, *n),
+        Message::Hello { id } => put_hello(out, id),
+        Message::End => {
+            out.push(6)?;
+            Ok(())
+        }
+        Message::AskPublish {
+            kind,
+            tgt,
+            fun,
+            args,
+        } => put_ask_publish(out, *kind, tgt, fun, args.as_slice()),
+        Message::AskReport { jid } => put_ask_report(out, *jid),
+        Message::AskJobs => {
+            out.push(0x12)?;
+            Ok(())
+        }
+        Message::AskMine { kind, tgt, fun } => put_ask_mine(out, *kind, tgt, fun),
+        Message::Answer { status, text } => put_answer(out, *status, text),
+    }
+}
+
+// The body of a message.
+pub fn put_message(out: &mut Vec<u8>, message: &Message) -> Result<(), AllocError>
+    requires { Within message.now }
+    ensures ok { OnOk result (out.new.items ≡ out.old.items ++ spelling.body message.now) }
+    ensures err { OnErr result ((more : List ℕ) × (out.new.items ≡ out.old.items ++ more)) }
+{
+    out.push(1)?;
+    put_fields_of(out, message)
+}
