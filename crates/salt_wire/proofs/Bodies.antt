@@ -1,17 +1,17 @@
 -- Whole bodies, and fields at a place of a body.
-use Rattle.std.proofs.Common.{◌≡◌, ℕ, suc, ◌+◌, ◌-◌, ◌≤◌, Bool, true, false, cond, eqb, List, [], ◌∷◌, ◌++◌, length, drop, Result, Ok, Err, refl, sym, ap, subst, ◌∙◌, arith, length-append, length-drop}
-use Rattle.std.specs.Prelude.{IfOk}
+use Rattle.std.proofs.Common.{◌≡◌, ℕ, suc, ◌+◌, ◌-◌, ◌≤◌, Bool, true, false, cond, eqb, List, [], ◌∷◌, ◌++◌, length, take, drop, Result, Ok, Err, refl, sym, ap, subst, ◌∙◌, arith, length-append, length-drop}
+use Rattle.std.specs.Prelude.{IfOk, IfErr}
 use Rattle.std.proofs.lemmas.Bool.{eqb-true}
-use Rattle.std.proofs.lemmas.List.{append-nil, get_or-drop}
+use Rattle.std.proofs.lemmas.List.{append-nil, get_or-drop, take_all}
 use Rattle.salt_value.specs.Decoding.{◌>>=◌, IsBytes}
 use Rattle.salt_wire.specs.declared.fault.Misread.{Misread}
-use Rattle.salt_wire.specs.declared.fault.Misread.TheVariants.{BadVersion, Trailing}
+use Rattle.salt_wire.specs.declared.fault.Misread.TheVariants.{NoMemory, BadVersion, BadKind, BadField, Trailing}
 use Rattle.salt_wire.specs.declared.fault.WireFault.{WireFault}
 use Rattle.salt_wire.specs.declared.fault.WireFault.TheVariants as faults
 use Rattle.salt_wire.specs.declared.message.Message.{Message}
 use Rattle.salt_wire.specs.Spelling.{body, kind_and_fields as spelled}
 use Rattle.salt_wire.specs.Limits.{Within}
-use Rattle.salt_wire.specs.Decoding.{Reader, Answers, kind_and_fields, nothing_after, message_at, turned, decoded, up_to, field_at}
+use Rattle.salt_wire.specs.Decoding.{Reader, Gives, Answers, kind_and_fields, nothing_after, message_at, placed, turned, decoded, up_to, field_at}
 use Rattle.salt_wire.specs.RoundTrip.{IsReadBack, Spans}
 use Rattle.salt_wire.proofs.Codec.{bind_ok, ok_is}
 
@@ -83,3 +83,19 @@ answers (Err faults.BadVersion) s e = sym e
 answers (Err faults.BadKind) s e = sym e
 answers (Err (faults.BadField at)) s e = sym e
 answers (Err (faults.Trailing at)) s e = sym e
+
+-- what a reader gave at a place of a body, with the place after it, is that field
+module _ {X A : Type 0} (view : X → A × List ℕ) (read : Reader A) (b : List ℕ) (at : ℕ) (out : Result (A × ℕ) WireFault) where
+  told : (s : Result (A × List ℕ) Misread) → read (take (length b - at) (drop at b)) ≡ s → out ≡ turned (length b) (s >>= λ x. Ok (up_to (length b) x)) → out ≡ field_at read b at
+  unfolding field_at
+  told s given e =
+      let whole : take (length b - at) (drop at b) ≡ drop at b = take_all (length b - at) (drop at b) (omega (arith, length-drop at b)) in
+      e ∙ ap (λ (s : Result (A × List ℕ) Misread). turned (length b) (s >>= λ x. Ok (up_to (length b) x))) (sym given ∙ ap read whole)
+
+  pub is_field : (r : Result X Misread) → Gives view r (read (take (length b - at) (drop at b))) → IfOk r (λ x. out ≡ Ok (up_to (length b) (view x))) → IfErr r (λ e. out ≡ Err (placed (length b) e)) → Answers out (field_at read b at)
+  is_field (Ok x) given ok err = answers out _ (told (Ok (view x)) given ok)
+  is_field (Err NoMemory) given ok err = subst (λ (o : Result (A × ℕ) WireFault). Answers o (field_at read b at)) (sym err) tt
+  is_field (Err BadVersion) given ok err = answers out _ (told (Err BadVersion) given err)
+  is_field (Err BadKind) given ok err = answers out _ (told (Err BadKind) given err)
+  is_field (Err (BadField left)) given ok err = answers out _ (told (Err (BadField left)) given err)
+  is_field (Err (Trailing left)) given ok err = answers out _ (told (Err (Trailing left)) given err)

@@ -1,8 +1,8 @@
 -- The fields of messages: what is written is read again, and what is read was written so.
-use Rattle.std.proofs.Common.{◌≡◌, ℕ, suc, ◌^◌, ◌<◌, ◌≤◌, Bool, true, false, ◌&&◌, cond, eqb, ltb, leb, List, [], ◌∷◌, ◌++◌, length, take, drop, Option, Some, None, Result, Ok, Err, refl, sym, ap, subst, ◌∙◌, append_assoc, arith, ◌⊎◌, inl, inr, length-append}
+use Rattle.std.proofs.Common.{◌≡◌, ℕ, suc, ◌^◌, ◌<◌, ◌≤◌, Bool, true, false, ◌&&◌, cond, ltb, leb, List, [], ◌∷◌, ◌++◌, length, take, drop, Option, Some, None, Result, Ok, Err, refl, sym, ap, subst, ◌∙◌, append_assoc, arith, length-append}
 use Rattle.std.specs.Int.{Width, w8, w16, w32, w64, byte_len, to_be_bytes}
 use Rattle.std.specs.List.{list_all}
-use Rattle.std.proofs.lemmas.Bool.{ltb-false, le-ltb, leb-true, le-leb, eqb-true}
+use Rattle.std.proofs.lemmas.Bool.{ltb-false, le-ltb, leb-true, le-leb}
 use Rattle.std.proofs.lemmas.List.{take_at, drop_at, take-append-drop, length-take}
 use Rattle.salt_value.specs.Id.{IsId, is_id_byte}
 use Rattle.salt_value.specs.Word.{IsWord, is_word_byte}
@@ -23,7 +23,7 @@ use Rattle.salt_wire.specs.Spelling.{number, id, word}
 use Rattle.salt_wire.specs.Limits.{is_id, IsNumber, IsText}
 use Rattle.salt_wire.specs.Decoding.{Reader, bad, when, found, byte_field, number_field, text_field, short_text, counted_or, is_word, id_or, id_field, word_field, jid_field, kind_of, kind_field, value_or, value_field, items_layer, items_of, items_field, pairs_layer, pairs_of, fields_field}
 use Rattle.salt_wire.specs.RoundTrip.{Took, IsReadBack}
-use Rattle.salt_wire.proofs.FieldLemmas.{kind_of-code}
+use Rattle.salt_wire.proofs.FieldLemmas.{kind_of-code, kind_of-is}
 use Rattle.salt_wire.proofs.WriteLemmas.{both_true}
 
 -- the laws of numbers, texts and values
@@ -108,53 +108,6 @@ IsWord-is_word xs h = both _ _ (le-leb 1 (length xs) (omega (arith, h.0))) (both
 -- the byte of a number
 pub byte_is : (n : ℕ) → n < 256 → to_be_bytes w8 n ≡ n ∷ []
 byte_is n lt = ap (λ m. m ∷ []) (omega (arith, lt))
-
--- one case of a table of codes
-pick : (n m : ℕ) (a kind : Kind) (r : Option Kind) → cond (eqb n m) (Some a) r ≡ Some kind → ((n ≡ m) × (a ≡ kind)) ⊎ (r ≡ Some kind)
-pick n m a kind r e = by (eqb n m) (eqb-true n m) e where
-  by : (b : Bool) → (b ≡ true → n ≡ m) → cond b (Some a) r ≡ Some kind → ((n ≡ m) × (a ≡ kind)) ⊎ (r ≡ Some kind)
-  by true h e = inl (h refl, cc)
-  by false h e = inr e
-
-pub kind_of-is : (n : ℕ) (kind : Kind) → kind_of n ≡ Some kind → code_of kind ≡ n
-unfolding kind_of
-kind_of-is n kind e =
-    elim (pick n 1 k.Glob kind _ e) [
-      | inl h ↦ row k.Glob h
-      | inr e ↦
-          elim (pick n 2 k.Pcre kind _ e) [
-            | inl h ↦ row k.Pcre h
-            | inr e ↦
-                elim (pick n 3 k.List kind _ e) [
-                  | inl h ↦ row k.List h
-                  | inr e ↦
-                      elim (pick n 4 k.Grain kind _ e) [
-                        | inl h ↦ row k.Grain h
-                        | inr e ↦
-                            elim (pick n 5 k.GrainPcre kind _ e) [
-                              | inl h ↦ row k.GrainPcre h
-                              | inr e ↦
-                                  elim (pick n 6 k.Pillar kind _ e) [
-                                    | inl h ↦ row k.Pillar h
-                                    | inr e ↦
-                                        elim (pick n 7 k.PillarPcre kind _ e) [
-                                          | inl h ↦ row k.PillarPcre h
-                                          | inr e ↦
-                                              elim (pick n 8 k.Nodegroup kind _ e) [
-                                                | inl h ↦ row k.Nodegroup h
-                                                | inr e ↦
-                                                    elim (pick n 9 k.Compound kind _ e) [ inl h ↦ row k.Compound h | inr e ↦ absurd cc ]
-                                              ]
-                                        ]
-                                  ]
-                            ]
-                      ]
-                ]
-          ]
-    ]
-  where
-    row : (a : Kind) → (n ≡ code_of a) × (a ≡ kind) → code_of kind ≡ n
-    row a h = sym (h.0 ∙ ap code_of h.1)
 
 -- ---- fields
 

@@ -1,17 +1,19 @@
 -- Words are ASCII, and the table of the kinds' codes.
-use Rattle.std.proofs.Common.{◌≡◌, ℕ, ◌<◌, ◌&&◌, eqb, true, false, Bool, List, [], ◌∷◌, Option, Some, None, refl, sym, subst, arith, All}
-use Rattle.std.specs.List.{list_all}
+use Rattle.std.proofs.Common.{◌≡◌, ℕ, ◌<◌, ◌&&◌, eqb, cond, true, false, Bool, List, [], ◌∷◌, Option, Some, None, Result, Ok, refl, ap, ◌∙◌, sym, subst, arith, All}
+use Rattle.std.specs.List.{list_all, find}
 use Rattle.std.specs.Str.{IsUtf8}
 use Rattle.std.proofs.lemmas.Str.{IsUtf8-from_ascii}
 use Rattle.std.proofs.lemmas.Str.Ascii.{IsAscii-from_all}
 use Rattle.std.proofs.lemmas.List.Elements.{All-nil, All-cons}
 use Rattle.std.proofs.lemmas.Bool.Decides.{nat_tests}
-use Rattle.std.proofs.lemmas.Bool.{ne_eqb}
+use Rattle.std.proofs.lemmas.Bool.{eqb-true}
 use Rattle.salt_value.specs.Word.{is_word_byte}
+use Rattle.salt_value.specs.Decoding.{◌>>=◌}
 use Rattle.target_tree.specs.Kinds.{TheKind, code_of}
 use Rattle.target_tree.specs.declared.kind.Kind.{Kind}
 use Rattle.target_tree.specs.declared.kind.Kind.TheVariants as k
-use Rattle.salt_wire.specs.Decoding.{is_word, kind_of}
+use Rattle.salt_wire.specs.declared.fault.Misread.{Misread}
+use Rattle.salt_wire.specs.Decoding.{is_word, bad, found, byte_field, kinds, kind_of, kind_field}
 
 and_first : (a b : Bool) → (a && b) ≡ true → a ≡ true
 and_first a b e = grind arith
@@ -45,13 +47,28 @@ kind_of-code k.PillarPcre = refl
 kind_of-code k.Nodegroup = refl
 kind_of-code k.Compound = refl
 
-no_kind : (code : ℕ) → ((kind : Kind) → code_of kind ≡ code → ⊥) → kind_of code ≡ None
+-- what a search finds passes its test
+find_passes : {A : Type 0} (test : A → Bool) (xs : List A) (x : A) → find test xs ≡ Some x → test x ≡ true
+find_passes test [] x e = absurd cc
+find_passes test (y ∷ xs) x e = by (test y) refl (find_passes test xs x) e where
+  by : (b : Bool) → test y ≡ b → (find test xs ≡ Some x → test x ≡ true) → cond b (Some y) (find test xs) ≡ Some x → test x ≡ true
+  by true t more e = let same : y ≡ x = cc in subst (λ z. test z ≡ true) same t
+  by false t more e = more e
+
+pub kind_of-is : (code : ℕ) (kind : Kind) → kind_of code ≡ Some kind → code_of kind ≡ code
 unfolding kind_of
-no_kind code h =
-    let no : (kind : Kind) → eqb code (code_of kind) ≡ false = λ kind. ne_eqb code (code_of kind) (λ e. h kind (sym e)) in
-    rw (no k.Glob, no k.Pcre, no k.List, no k.Grain, no k.GrainPcre, no k.Pillar, no k.PillarPcre, no k.Nodegroup, no k.Compound) refl
+kind_of-is code kind e = eqb-true (code_of kind) code (find_passes (λ kind. eqb (code_of kind) code) kinds kind e)
 
 -- the one kind of a code is that of the table
-pub the_kind : (code : ℕ) (r : Option Kind) → TheKind (λ kind. code_of kind ≡ code) r → r ≡ kind_of code
-the_kind code None h = sym (no_kind code h)
+the_kind : (code : ℕ) (r : Option Kind) → TheKind (λ kind. code_of kind ≡ code) r → r ≡ kind_of code
+the_kind code None h = by (kind_of code) refl where
+  by : (r : Option Kind) → kind_of code ≡ r → None ≡ r
+  by None e = refl
+  by (Some kind) e = absurd (h kind (kind_of-is code kind e))
 the_kind code (Some kind) h = subst (λ c. Some kind ≡ kind_of c) h.0 (sym (kind_of-code kind))
+
+-- the kind that the table has for a byte is what is read
+pub kind_read : (bytes rest : List ℕ) (code : ℕ) (r : Option Kind) → byte_field bytes ≡ Ok (code, rest) → TheKind (λ kind. code_of kind ≡ code) r → kind_field bytes ≡ found (bad bytes) r rest
+unfolding kind_field
+kind_read bytes rest code r e h =
+    ap (λ (read : Result (ℕ × List ℕ) Misread). read >>= λ code. found (bad bytes) (kind_of code.0) code.1) e ∙ ap (λ (kind : Option Kind). found (bad bytes) kind rest) (sym (the_kind code r h))

@@ -1,6 +1,6 @@
 -- Decoding from left to right, as a function: what stands at the front of some bytes, and the bytes after it, or the first fault.
 use Rattle.std.specs.Prelude.{◌≡◌, ℕ, zero, suc, ◌-◌, ◌&&◌, ◌||◌, nat_le, nat_lt, ◌==◌, if◌then◌else◌, Bool, List, [], ◌∷◌, length, take, drop, Option, Some, None, Result, Ok, Err}
-use Rattle.std.specs.List.{list_all}
+use Rattle.std.specs.List.{list_all, find}
 use Rattle.std.specs.Int.{Width, w8, w16, w32, w64}
 use Rattle.salt_value.specs.Decoding.{◌>>=◌, number_or, text_or, read_at}
 use Rattle.salt_value.specs.Jid.{greatest_jid}
@@ -8,6 +8,7 @@ use Rattle.salt_value.specs.Word.{is_word_byte}
 use Rattle.salt_value.specs.declared.fault.ValueFault.{ValueFault}
 use Rattle.salt_value.specs.declared.value.Value.{Value, out-Value}
 use Rattle.salt_value.specs.declared.value.Value.TheOpen.{Value-F}
+use Rattle.target_tree.specs.Kinds.{code_of}
 use Rattle.target_tree.specs.declared.kind.Kind.{Kind}
 use Rattle.target_tree.specs.declared.kind.Kind.TheVariants as k
 use Rattle.target_tree.specs.declared.target.Target.{Target}
@@ -97,13 +98,13 @@ jid_field bytes = do
   n ← number_or w64 (bad bytes) bytes
   when (nat_le n.0 greatest_jid) (bad bytes) n
 
+-- each kind of target
+abbrev pub kinds : List Kind
+kinds = k.Glob ∷ k.Pcre ∷ k.List ∷ k.Grain ∷ k.GrainPcre ∷ k.Pillar ∷ k.PillarPcre ∷ k.Nodegroup ∷ k.Compound ∷ []
+
 -- the kind of target that has this code
 unfoldable pub kind_of : ℕ → Option Kind
-kind_of code =
-    if code == 1 then Some k.Glob else if code == 2 then Some k.Pcre else if code == 3 then Some k.List
-    else if code == 4 then Some k.Grain else if code == 5 then Some k.GrainPcre else if code == 6 then Some k.Pillar
-    else if code == 7 then Some k.PillarPcre else if code == 8 then Some k.Nodegroup else if code == 9 then Some k.Compound
-    else None
+kind_of code = find (λ kind. code_of kind == code) kinds
 
 unfoldable pub kind_field : Reader Kind
 kind_field bytes = do

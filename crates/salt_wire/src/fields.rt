@@ -12,22 +12,25 @@ use salt_value::{
 use std::alloc::{AllocError, Global};
 use target_tree::Kind;
 
+// What stands at the front of some bytes, and the bytes after it.
+pub type Parsed<'a, T> = Result<(T, &'a [u8]), Misread>;
+
 // A byte.
-pub fn byte_at(bytes: &[u8]) -> Result<(u8, &[u8]), Misread>
+pub fn byte_at(bytes: &[u8]) -> Parsed<'_, u8>
     ensures { Gives (λ x. (x.0, x.1.now)) result (spec.byte_field bytes.now) }
 {
     u8_or(bytes, Misread::BadField(bytes.len()))
 }
 
 // A number of 32 bits.
-pub fn number_at(bytes: &[u8]) -> Result<(u32, &[u8]), Misread>
+pub fn number_at(bytes: &[u8]) -> Parsed<'_, u32>
     ensures { Gives (λ x. (x.0, x.1.now)) result (spec.number_field bytes.now) }
 {
     u32_or(bytes, Misread::BadField(bytes.len()))
 }
 
 // A text of at most so many bytes.
-pub fn short_text_at(alloc: Global, most: usize, bytes: &[u8]) -> Result<(Text, &[u8]), Misread>
+pub fn short_text_at(alloc: Global, most: usize, bytes: &[u8]) -> Parsed<'_, Text>
     ensures { Gives (λ x. (x.0, x.1.now)) result (spec.short_text most bytes.now) }
 {
     let bad = Misread::BadField(bytes.len());
@@ -39,7 +42,7 @@ pub fn short_text_at(alloc: Global, most: usize, bytes: &[u8]) -> Result<(Text, 
 }
 
 // A text.
-pub fn text_at(alloc: Global, bytes: &[u8]) -> Result<(Text, &[u8]), Misread>
+pub fn text_at(alloc: Global, bytes: &[u8]) -> Parsed<'_, Text>
     ensures { Gives (λ x. (x.0, x.1.now)) result (spec.text_field bytes.now) }
 {
     let bad = Misread::BadField(bytes.len());
@@ -47,19 +50,9 @@ pub fn text_at(alloc: Global, bytes: &[u8]) -> Result<(Text, &[u8]), Misread>
     Ok((Text::new(String::from_str(alloc, text)?), rest))
 }
 
-// The id that the bytes are.
-fn id_in(bytes: &[u8]) -> Option<MinionId>
-    ensures { MatchOption result (is_id bytes.now ≡ false) (λ id. (is_id bytes.now ≡ true) × (id ≡ bytes.now)) }
-{
-    match MinionId::from_bytes(bytes) {
-        Ok(id) => Some(id),
-        Err(_) => None,
-    }
-}
-
 // An id, after the byte of its length, or this fault.
 #[tactic(auto, unfolding(crate::specs::Decoding::counted_or))]
-pub fn id_or(bytes: &[u8], bad: Misread) -> Result<(MinionId, &[u8]), Misread>
+pub fn id_or(bytes: &[u8], bad: Misread) -> Parsed<'_, MinionId>
     ensures gives { Gives (λ x. (x.0, x.1.now)) result (spec.id_or bad bytes.now) }
     ensures known { IfErr result (λ e. e ≡ bad) }
 {
@@ -69,35 +62,25 @@ pub fn id_or(bytes: &[u8], bad: Misread) -> Result<(MinionId, &[u8]), Misread>
         return Err(bad);
     }
     let (front, after) = rest.split_at(length);
-    match id_in(front) {
-        Some(id) => Ok((id, after)),
-        None => Err(bad),
+    match MinionId::from_bytes(front) {
+        Ok(id) => Ok((id, after)),
+        Err(_) => Err(bad),
     }
 }
 
 // An id.
-pub fn id_at(bytes: &[u8]) -> Result<(MinionId, &[u8]), Misread>
+pub fn id_at(bytes: &[u8]) -> Parsed<'_, MinionId>
     ensures gives { Gives (λ x. (x.0, x.1.now)) result (spec.id_field bytes.now) }
     ensures known { IfErr result (λ e. e ≡ spec.bad bytes.now) }
 {
     id_or(bytes, Misread::BadField(bytes.len()))
 }
 
-// The text that the bytes are, if a word may be that.
-fn word_text(bytes: &[u8]) -> Option<&str>
-    ensures { MatchOption result (spec.is_word bytes.now ≡ false) (λ s. s.now ≡ bytes.now) }
-{
-    match std::str::from_utf8(bytes) {
-        Ok(text) => Some(text),
-        Err(_) => None,
-    }
-}
-
 // The word that the bytes are.
 fn word_in(alloc: Global, bytes: &[u8]) -> Result<Option<Word>, AllocError>
     ensures { IfOk result (λ found. MatchOption found (spec.is_word bytes.now ≡ false) (λ word. (spec.is_word bytes.now ≡ true) × (word ≡ bytes.now))) }
 {
-    let Some(text) = word_text(bytes) else {
+    let Ok(text) = std::str::from_utf8(bytes) else {
         return Ok(None);
     };
     match Word::read(alloc, text) {
@@ -109,7 +92,7 @@ fn word_in(alloc: Global, bytes: &[u8]) -> Result<Option<Word>, AllocError>
 
 // A word, after the two bytes of its length.
 #[tactic(auto, unfolding(crate::specs::Decoding::counted_or))]
-pub fn word_at(alloc: Global, bytes: &[u8]) -> Result<(Word, &[u8]), Misread>
+pub fn word_at(alloc: Global, bytes: &[u8]) -> Parsed<'_, Word>
     ensures { Gives (λ x. (x.0, x.1.now)) result (spec.word_field bytes.now) }
 {
     let bad = Misread::BadField(bytes.len());
@@ -127,7 +110,7 @@ pub fn word_at(alloc: Global, bytes: &[u8]) -> Result<(Word, &[u8]), Misread>
 
 // A job id.
 #[tactic(auto, unfolding(crate::specs::Decoding::jid_field))]
-pub fn jid_at(bytes: &[u8]) -> Result<(Jid, &[u8]), Misread>
+pub fn jid_at(bytes: &[u8]) -> Parsed<'_, Jid>
     ensures { Gives (λ x. (x.0, x.1.now)) result (spec.jid_field bytes.now) }
 {
     let bad = Misread::BadField(bytes.len());
@@ -138,20 +121,13 @@ pub fn jid_at(bytes: &[u8]) -> Result<(Jid, &[u8]), Misread>
     }
 }
 
-// The kind of this code.
-fn kind_of(code: u8) -> Option<Kind>
-    ensures { result ≡ spec.kind_of code }
-{
-    Kind::of(code)
-}
-
 // The kind of a target.
 #[tactic(auto, unfolding(crate::specs::Decoding::kind_field))]
-pub fn kind_at(bytes: &[u8]) -> Result<(Kind, &[u8]), Misread>
+pub fn kind_at(bytes: &[u8]) -> Parsed<'_, Kind>
     ensures { Gives (λ x. (x.0, x.1.now)) result (spec.kind_field bytes.now) }
 {
     let (code, rest) = byte_at(bytes)?;
-    match kind_of(code) {
+    match Kind::of(code) {
         Some(kind) => Ok((kind, rest)),
         None => Err(Misread::BadField(bytes.len())),
     }
@@ -159,7 +135,7 @@ pub fn kind_at(bytes: &[u8]) -> Result<(Kind, &[u8]), Misread>
 
 // A value.
 #[tactic(auto, unfolding(crate::specs::Decoding::value_field))]
-pub fn value_at(alloc: Global, bytes: &[u8]) -> Result<(Value, &[u8]), Misread>
+pub fn value_at(alloc: Global, bytes: &[u8]) -> Parsed<'_, Value>
     ensures { Gives (λ x. (x.0, x.1.now)) result (spec.value_field bytes.now) }
 {
     match Value::read(alloc, bytes) {
@@ -171,7 +147,7 @@ pub fn value_at(alloc: Global, bytes: &[u8]) -> Result<(Value, &[u8]), Misread>
 
 // A value that is a list.
 #[tactic(auto, unfolding(crate::specs::Decoding::items_field))]
-pub fn items_at(alloc: Global, bytes: &[u8]) -> Result<(Items, &[u8]), Misread>
+pub fn items_at(alloc: Global, bytes: &[u8]) -> Parsed<'_, Items>
     ensures { Gives (λ x. (x.0, x.1.now)) result (spec.items_field bytes.now) }
 {
     let (value, rest) = value_at(alloc, bytes)?;
@@ -183,7 +159,7 @@ pub fn items_at(alloc: Global, bytes: &[u8]) -> Result<(Items, &[u8]), Misread>
 
 // A value that is a map.
 #[tactic(auto, unfolding(crate::specs::Decoding::fields_field))]
-pub fn fields_at(alloc: Global, bytes: &[u8]) -> Result<(Fields, &[u8]), Misread>
+pub fn fields_at(alloc: Global, bytes: &[u8]) -> Parsed<'_, Fields>
     ensures { Gives (λ x. (x.0, x.1.now)) result (spec.fields_field bytes.now) }
 {
     let (value, rest) = value_at(alloc, bytes)?;

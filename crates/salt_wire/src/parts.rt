@@ -5,7 +5,8 @@ ghost use Rattle.salt_wire.specs.Decoding.{Gives};
 
 use crate::fault::Misread;
 use crate::fields::{
-    byte_at, fields_at, items_at, jid_at, kind_at, number_at, short_text_at, value_at, word_at,
+    Parsed, byte_at, fields_at, items_at, jid_at, kind_at, number_at, short_text_at, value_at,
+    word_at,
 };
 use crate::message::{Entry, Event, Job};
 use crate::tree::tree_at;
@@ -14,7 +15,7 @@ use std::alloc::Global;
 
 // A job.
 #[tactic(auto, unfolding(crate::specs::Decoding::job_field))]
-pub fn job_at(alloc: Global, bytes: &[u8]) -> Result<(Job, &[u8]), Misread>
+pub fn job_at(alloc: Global, bytes: &[u8]) -> Parsed<'_, Job>
     ensures { Gives (λ x. (x.0, x.1.now)) result (spec.job_field bytes.now) }
 {
     let (jid, rest) = match jid_at(bytes) {
@@ -38,7 +39,7 @@ pub fn job_at(alloc: Global, bytes: &[u8]) -> Result<(Job, &[u8]), Misread>
 }
 
 #[tactic(auto, unfolding(crate::specs::Decoding::return_at))]
-fn return_at(alloc: Global, bytes: &[u8]) -> Result<(Entry, &[u8]), Misread>
+fn return_at(alloc: Global, bytes: &[u8]) -> Parsed<'_, Entry>
     ensures { Gives (λ x. (x.0, x.1.now)) result (spec.return_at bytes.now) }
 {
     let (seq, rest) = number_at(bytes)?;
@@ -49,7 +50,7 @@ fn return_at(alloc: Global, bytes: &[u8]) -> Result<(Entry, &[u8]), Misread>
 }
 
 #[tactic(auto, unfolding(crate::specs::Decoding::fired_at))]
-fn fired_at(alloc: Global, bytes: &[u8]) -> Result<(Entry, &[u8]), Misread>
+fn fired_at(alloc: Global, bytes: &[u8]) -> Parsed<'_, Entry>
     ensures { Gives (λ x. (x.0, x.1.now)) result (spec.fired_at bytes.now) }
 {
     let (tag, rest) = word_at(alloc, bytes)?;
@@ -58,15 +59,8 @@ fn fired_at(alloc: Global, bytes: &[u8]) -> Result<(Entry, &[u8]), Misread>
     Ok((Entry::Fired { event }, rest))
 }
 
-fn start_at(bytes: &[u8]) -> Result<(Entry, &[u8]), Misread>
-    ensures { Gives (λ x. (x.0, x.1.now)) result (spec.start_at bytes.now) }
-{
-    let (boot, rest) = number_at(bytes)?;
-    Ok((Entry::Start { boot }, rest))
-}
-
 #[tactic(auto, unfolding(crate::specs::Decoding::mine_at))]
-fn mine_at(alloc: Global, bytes: &[u8]) -> Result<(Entry, &[u8]), Misread>
+fn mine_at(alloc: Global, bytes: &[u8]) -> Parsed<'_, Entry>
     ensures { Gives (λ x. (x.0, x.1.now)) result (spec.mine_at bytes.now) }
 {
     let (seq, rest) = number_at(bytes)?;
@@ -86,13 +80,16 @@ fn mine_at(alloc: Global, bytes: &[u8]) -> Result<(Entry, &[u8]), Misread>
 
 // What stands after the tag of an entry.
 #[tactic(auto, unfolding(crate::specs::Decoding::entry_after))]
-fn entry_after(alloc: Global, tag: u8, bytes: &[u8]) -> Result<(Entry, &[u8]), Misread>
+fn entry_after(alloc: Global, tag: u8, bytes: &[u8]) -> Parsed<'_, Entry>
     ensures { Gives (λ x. (x.0, x.1.now)) result (spec.entry_after tag bytes.now) }
 {
     match tag {
         1 => return_at(alloc, bytes),
         2 => fired_at(alloc, bytes),
-        3 => start_at(bytes),
+        3 => {
+            let (boot, rest) = number_at(bytes)?;
+            Ok((Entry::Start { boot }, rest))
+        }
         4 => mine_at(alloc, bytes),
         _ => Err(Misread::BadField(bytes.len().saturating_add(1))),
     }
@@ -100,7 +97,7 @@ fn entry_after(alloc: Global, tag: u8, bytes: &[u8]) -> Result<(Entry, &[u8]), M
 
 // An entry.
 #[tactic(auto, unfolding(crate::specs::Decoding::entry_field))]
-pub fn entry_at(alloc: Global, bytes: &[u8]) -> Result<(Entry, &[u8]), Misread>
+pub fn entry_at(alloc: Global, bytes: &[u8]) -> Parsed<'_, Entry>
     ensures { Gives (λ x. (x.0, x.1.now)) result (spec.entry_field bytes.now) }
 {
     let (tag, rest) = byte_at(bytes)?;

@@ -6,7 +6,7 @@ ghost use Rattle.salt_wire.specs.Decoding.{Gives};
 
 use crate::fault::Misread;
 use crate::fields::{
-    byte_at, id_at, items_at, jid_at, kind_at, number_at, short_text_at, text_at, word_at,
+    Parsed, byte_at, id_at, items_at, jid_at, kind_at, number_at, short_text_at, text_at, word_at,
 };
 use crate::message::Message;
 use crate::parts::{entry_at, job_at};
@@ -16,7 +16,7 @@ use std::alloc::Global;
 const MOST_ANSWER_BYTES: usize = 1_000_000;
 
 #[tactic(auto, unfolding(crate::specs::Decoding::pub_fields))]
-fn pub_fields(alloc: Global, bytes: &[u8]) -> Result<(Message, &[u8]), Misread>
+fn pub_fields(alloc: Global, bytes: &[u8]) -> Parsed<'_, Message>
     ensures { Gives (λ x. (x.0, x.1.now)) result (spec.pub_fields bytes.now) }
 {
     let (seq, rest) = number_at(bytes)?;
@@ -25,7 +25,7 @@ fn pub_fields(alloc: Global, bytes: &[u8]) -> Result<(Message, &[u8]), Misread>
 }
 
 #[tactic(auto, unfolding(crate::specs::Decoding::have_fields))]
-fn have_fields(bytes: &[u8]) -> Result<(Message, &[u8]), Misread>
+fn have_fields(bytes: &[u8]) -> Parsed<'_, Message>
     ensures { Gives (λ x. (x.0, x.1.now)) result (spec.have_fields bytes.now) }
 {
     let (jobs, rest) = number_at(bytes)?;
@@ -33,7 +33,7 @@ fn have_fields(bytes: &[u8]) -> Result<(Message, &[u8]), Misread>
 }
 
 #[tactic(auto, unfolding(crate::specs::Decoding::up_fields))]
-fn up_fields(alloc: Global, bytes: &[u8]) -> Result<(Message, &[u8]), Misread>
+fn up_fields(alloc: Global, bytes: &[u8]) -> Parsed<'_, Message>
     ensures { Gives (λ x. (x.0, x.1.now)) result (spec.up_fields bytes.now) }
 {
     let (minion, rest) = match id_at(bytes) {
@@ -46,7 +46,7 @@ fn up_fields(alloc: Global, bytes: &[u8]) -> Result<(Message, &[u8]), Misread>
 }
 
 #[tactic(auto, unfolding(crate::specs::Decoding::up_have_fields))]
-fn up_have_fields(bytes: &[u8]) -> Result<(Message, &[u8]), Misread>
+fn up_have_fields(bytes: &[u8]) -> Parsed<'_, Message>
     ensures { Gives (λ x. (x.0, x.1.now)) result (spec.up_have_fields bytes.now) }
 {
     let (minion, rest) = match id_at(bytes) {
@@ -58,7 +58,7 @@ fn up_have_fields(bytes: &[u8]) -> Result<(Message, &[u8]), Misread>
 }
 
 #[tactic(auto, unfolding(crate::specs::Decoding::hello_fields))]
-fn hello_fields(bytes: &[u8]) -> Result<(Message, &[u8]), Misread>
+fn hello_fields(bytes: &[u8]) -> Parsed<'_, Message>
     ensures { Gives (λ x. (x.0, x.1.now)) result (spec.hello_fields bytes.now) }
 {
     let (id, rest) = match id_at(bytes) {
@@ -69,7 +69,7 @@ fn hello_fields(bytes: &[u8]) -> Result<(Message, &[u8]), Misread>
 }
 
 #[tactic(auto, unfolding(crate::specs::Decoding::ask_publish_fields))]
-fn ask_publish_fields(alloc: Global, bytes: &[u8]) -> Result<(Message, &[u8]), Misread>
+fn ask_publish_fields(alloc: Global, bytes: &[u8]) -> Parsed<'_, Message>
     ensures { Gives (λ x. (x.0, x.1.now)) result (spec.ask_publish_fields bytes.now) }
 {
     let (kind, rest) = kind_at(bytes)?;
@@ -86,7 +86,7 @@ fn ask_publish_fields(alloc: Global, bytes: &[u8]) -> Result<(Message, &[u8]), M
 }
 
 #[tactic(auto, unfolding(crate::specs::Decoding::ask_report_fields))]
-fn ask_report_fields(bytes: &[u8]) -> Result<(Message, &[u8]), Misread>
+fn ask_report_fields(bytes: &[u8]) -> Parsed<'_, Message>
     ensures { Gives (λ x. (x.0, x.1.now)) result (spec.ask_report_fields bytes.now) }
 {
     let (jid, rest) = match jid_at(bytes) {
@@ -97,7 +97,7 @@ fn ask_report_fields(bytes: &[u8]) -> Result<(Message, &[u8]), Misread>
 }
 
 #[tactic(auto, unfolding(crate::specs::Decoding::ask_mine_fields))]
-fn ask_mine_fields(alloc: Global, bytes: &[u8]) -> Result<(Message, &[u8]), Misread>
+fn ask_mine_fields(alloc: Global, bytes: &[u8]) -> Parsed<'_, Message>
     ensures { Gives (λ x. (x.0, x.1.now)) result (spec.ask_mine_fields bytes.now) }
 {
     let (kind, rest) = kind_at(bytes)?;
@@ -114,7 +114,7 @@ fn is_status(status: u8) -> bool
 
 // The status of an answer.
 #[tactic(auto, unfolding(crate::specs::Decoding::status_field))]
-fn status_at(bytes: &[u8]) -> Result<(u8, &[u8]), Misread>
+fn status_at(bytes: &[u8]) -> Parsed<'_, u8>
     ensures { Gives (λ x. (x.0, x.1.now)) result (spec.status_field bytes.now) }
 {
     let (status, rest) = byte_at(bytes)?;
@@ -125,7 +125,7 @@ fn status_at(bytes: &[u8]) -> Result<(u8, &[u8]), Misread>
 }
 
 #[tactic(auto, unfolding(crate::specs::Decoding::answer_fields))]
-fn answer_fields(alloc: Global, bytes: &[u8]) -> Result<(Message, &[u8]), Misread>
+fn answer_fields(alloc: Global, bytes: &[u8]) -> Parsed<'_, Message>
     ensures { Gives (λ x. (x.0, x.1.now)) result (spec.answer_fields bytes.now) }
 {
     let (status, rest) = status_at(bytes)?;
@@ -135,7 +135,7 @@ fn answer_fields(alloc: Global, bytes: &[u8]) -> Result<(Message, &[u8]), Misrea
 
 // The fields of a client's message.
 #[tactic(auto, unfolding(crate::specs::Decoding::client_fields))]
-fn client_fields(alloc: Global, kind: u8, bytes: &[u8]) -> Result<(Message, &[u8]), Misread>
+fn client_fields(alloc: Global, kind: u8, bytes: &[u8]) -> Parsed<'_, Message>
     ensures { Gives (λ x. (x.0, x.1.now)) result (spec.client_fields kind bytes.now) }
 {
     match kind {
@@ -150,7 +150,7 @@ fn client_fields(alloc: Global, kind: u8, bytes: &[u8]) -> Result<(Message, &[u8
 
 // The fields of a message of this kind.
 #[tactic(auto, unfolding(crate::specs::Decoding::fields_of))]
-fn fields_of(alloc: Global, kind: u8, bytes: &[u8]) -> Result<(Message, &[u8]), Misread>
+fn fields_of(alloc: Global, kind: u8, bytes: &[u8]) -> Parsed<'_, Message>
     ensures { Gives (λ x. (x.0, x.1.now)) result (spec.fields_of kind bytes.now) }
 {
     match kind {
@@ -165,7 +165,7 @@ fn fields_of(alloc: Global, kind: u8, bytes: &[u8]) -> Result<(Message, &[u8]), 
 }
 
 #[tactic(auto, unfolding(crate::specs::Decoding::kind_and_fields))]
-fn kind_and_fields(alloc: Global, bytes: &[u8]) -> Result<(Message, &[u8]), Misread>
+fn kind_and_fields(alloc: Global, bytes: &[u8]) -> Parsed<'_, Message>
     ensures { Gives (λ x. (x.0, x.1.now)) result (spec.kind_and_fields bytes.now) }
 {
     match bytes {

@@ -18,7 +18,7 @@ struct Row {
     fields: &'static [usize],
 }
 
-static ROWS: [Row; 15] = [
+static ROWS: [Row; 16] = [
     Row {
         body: b"\x01\x01\x00\x00\x00\x00\x00\x06\x0a$\x18\x1e@\x00\x01\x00\x00\x00\x01*\x01\x00\x00\x00\x01*\x00\x09test.ping\x05\x00\x00\x00\x00",
         text: "pub 0 1700000000000000 glob * g:*  test.ping 0",
@@ -83,6 +83,11 @@ static ROWS: [Row; 15] = [
         fields: &[2],
     },
     Row {
+        body: b"\x01\x11\x03\x84D\x0c\xccs_\xff",
+        text: "report 253402300799999999",
+        fields: &[2],
+    },
+    Row {
         body: b"\x01\x12",
         text: "jobs",
         fields: &[],
@@ -99,7 +104,7 @@ static ROWS: [Row; 15] = [
     },
 ];
 
-static FAULTS: [(&[u8], WireFault); 31] = [
+static FAULTS: [(&[u8], WireFault); 47] = [
     (b"", WireFault::BadVersion),
     (b"\x02", WireFault::BadVersion),
     (b"\x00\x06", WireFault::BadVersion),
@@ -181,6 +186,64 @@ static FAULTS: [(&[u8], WireFault); 31] = [
     (
         b"\x01\x10\x01\x00\x00\x00\x01w\x00\x01f\x05\x00\x00\x00\x01\x07",
         WireFault::BadField { at: 11 },
+    ),
+    (
+        b"\x01\x01\x00\x00\x00\x00\x03\x84D\x0c\xccs`\x00",
+        WireFault::BadField { at: 6 },
+    ),
+    (
+        b"\x01\x01\x00\x00\x00\x00\x00\x06\x0a$\x18\x1e@\x00\x00",
+        WireFault::BadField { at: 14 },
+    ),
+    (
+        b"\x01\x01\x00\x00\x00\x00\x00\x06\x0a$\x18\x1e@\x00\x01\x00\x00\x00\x01\xff",
+        WireFault::BadField { at: 15 },
+    ),
+    (
+        b"\x01\x01\x00\x00\x00\x00\x00\x06\x0a$\x18\x1e@\x00\x01\x00\x00\x00\x01*\x01\x00\x00\x00\x01*\x00\x01 ",
+        WireFault::BadField { at: 26 },
+    ),
+    (
+        b"\x01\x01\x00\x00\x00\x00\x00\x06\x0a$\x18\x1e@\x00\x01\x00\x00\x00\x01*\x01\x00\x00\x00\x01*\x00\x01f\x06\x00\x00\x00\x00",
+        WireFault::BadField { at: 29 },
+    ),
+    (b"\x01\x03\x00", WireFault::BadField { at: 2 }),
+    (b"\x01\x04\x01 ", WireFault::BadField { at: 2 }),
+    (
+        b"\x01\x03\x02m1\x00\x00\x00\x01\x02\x00\x01a\x07",
+        WireFault::BadField { at: 13 },
+    ),
+    (
+        b"\x01\x03\x02m1\x00\x00\x00\x01\x04\x00\x00\x00\x05\x06\x00\x00\x00\x02\x00\x00\x00\x01b\x00\x00\x00\x00\x01a\x00",
+        WireFault::BadField { at: 14 },
+    ),
+    (
+        b"\x01\x03\x02m1\x00\x00\x00\x01\x04\x00\x00\x00\x05\x06\x00\x00\x00\x00\x05\x00\x00\x00\x00",
+        WireFault::BadField { at: 19 },
+    ),
+    (
+        b"\x01\x03\x02m1\x00\x00\x00\x01\x04\x00\x00\x00\x05\x06\x00\x00\x00\x00\x06\x00\x00\x00\x00\x00",
+        WireFault::BadField { at: 24 },
+    ),
+    (
+        b"\x01\x10\x0a\x00\x00\x00\x01w\x00\x01f\x05\x00\x00\x00\x00",
+        WireFault::BadField { at: 2 },
+    ),
+    (
+        b"\x01\x10\x01\x00\x00\x00\x01\xff\x00\x01f\x05\x00\x00\x00\x00",
+        WireFault::BadField { at: 3 },
+    ),
+    (
+        b"\x01\x10\x01\x00\x00\x00\x01w\x00\x00\x05\x00\x00\x00\x00",
+        WireFault::BadField { at: 8 },
+    ),
+    (
+        b"\x01\x13\x01\x00\x00\x00\x01\xff\x00\x01f",
+        WireFault::BadField { at: 3 },
+    ),
+    (
+        b"\x01\x13\x01\x00\x00\x00\x01w\x00\x01\x7f",
+        WireFault::BadField { at: 8 },
     ),
 ];
 
@@ -492,7 +555,7 @@ fn at(at: usize) -> Option<WireFault> {
     Some(WireFault::BadField { at })
 }
 
-static LIMITS: [Limit; 8] = [
+static LIMITS: [Limit; 9] = [
     // 256 nodes, and one more
     Limit {
         nodes: (8, 255),
@@ -545,6 +608,13 @@ static LIMITS: [Limit; 8] = [
         last: (6, 4002),
         fault: Some(WireFault::BadField { at: 61551 }),
     },
+    // 65,536 bytes, and a node more
+    Limit {
+        nodes: (10, 16),
+        leaves: (1, 4090, 16),
+        last: (1, 1),
+        fault: Some(WireFault::BadField { at: 65556 }),
+    },
 ];
 
 fn limit_fault(alloc: Global, limit: &Limit) -> Result<Option<WireFault>, AllocError> {
@@ -565,6 +635,101 @@ fn trees_have_limits(rt: HostRuntime) -> Result<(), Fail> {
     let alloc = rt.alloc();
     for limit in &LIMITS {
         assert_eq!(rt; limit_fault(alloc, limit)?, limit.fault);
+    }
+    Ok(())
+}
+
+// A body with a run of one byte between its front and its end.
+#[derive(Drop)]
+struct Long {
+    front: &'static [u8],
+    run: usize,
+    end: &'static [u8],
+    fault: Option<WireFault>,
+}
+
+static LONG: [Long; 10] = [
+    // an id of 64 bytes, and one of 65
+    Long {
+        front: b"\x01\x05\x40",
+        run: 64,
+        end: b"",
+        fault: None,
+    },
+    Long {
+        front: b"\x01\x05\x41",
+        run: 65,
+        end: b"",
+        fault: Some(WireFault::BadField { at: 2 }),
+    },
+    // a word of 256 bytes, and one of 257
+    Long {
+        front: b"\x01\x13\x01\x00\x00\x00\x01w\x01\x00",
+        run: 256,
+        end: b"",
+        fault: None,
+    },
+    Long {
+        front: b"\x01\x13\x01\x00\x00\x00\x01w\x01\x01",
+        run: 257,
+        end: b"",
+        fault: Some(WireFault::BadField { at: 8 }),
+    },
+    // a job's text of 4,096 bytes, and one of 4,097
+    Long {
+        front: b"\x01\x01\x00\x00\x00\x00\x00\x06\x0a$\x18\x1e@\x00\x01\x00\x00\x10\x00",
+        run: 4096,
+        end: b"\x01\x00\x00\x00\x01*\x00\x01f\x05\x00\x00\x00\x00",
+        fault: None,
+    },
+    Long {
+        front: b"\x01\x01\x00\x00\x00\x00\x00\x06\x0a$\x18\x1e@\x00\x01\x00\x00\x10\x01",
+        run: 4097,
+        end: b"\x01\x00\x00\x00\x01*\x00\x01f\x05\x00\x00\x00\x00",
+        fault: Some(WireFault::BadField { at: 15 }),
+    },
+    // a value of 65,536 bytes, and one more
+    Long {
+        front: b"\x01\x03\x02m1\x00\x00\x00\x01\x01\x00\x00\x00\x01\x00\x04\x00\x00\xff\xfb",
+        run: 65531,
+        end: b"",
+        fault: None,
+    },
+    Long {
+        front: b"\x01\x03\x02m1\x00\x00\x00\x01\x01\x00\x00\x00\x01\x00\x04\x00\x00\xff\xfc",
+        run: 65532,
+        end: b"",
+        fault: Some(WireFault::BadField { at: 15 }),
+    },
+    // an answer's text of 1,000,000 bytes, and one more
+    Long {
+        front: b"\x01\x14\x00\x00\x0f\x42\x40",
+        run: 1000000,
+        end: b"",
+        fault: None,
+    },
+    Long {
+        front: b"\x01\x14\x00\x00\x0f\x42\x41",
+        run: 1000001,
+        end: b"",
+        fault: Some(WireFault::BadField { at: 3 }),
+    },
+];
+
+fn long_fault(alloc: Global, long: &Long) -> Result<Option<WireFault>, AllocError> {
+    let run = vec![in alloc; b'x'; long.run]?;
+    let mut body = Vec::new(alloc);
+    body.extend_from_slice(long.front)?;
+    body.extend_from_slice(run.as_slice())?;
+    body.extend_from_slice(long.end)?;
+    Ok(decode(alloc, body.as_slice()).err())
+}
+
+#[test]
+fn long_fields_have_limits(rt: HostRuntime) -> Result<(), Fail> {
+    let alloc = rt.alloc();
+    for long in &LONG {
+        assert_eq!(rt; long_fault(alloc, long)?, long.fault);
     }
     Ok(())
 }

@@ -4,7 +4,7 @@ ghost use Rattle.salt_wire.specs.Decoding as spec;
 ghost use Rattle.salt_wire.specs.Decoding.{Gives};
 
 use crate::fault::Misread;
-use crate::fields::{byte_at, id_or, text_at};
+use crate::fields::{Parsed, byte_at, id_or, text_at};
 use salt_value::{MinionId, Text, u16_or};
 use sqlite_items::{Boxed, Items};
 use std::alloc::Global;
@@ -18,6 +18,12 @@ const MOST_PATTERNS: usize = 16;
 
 /// The bytes of the longest tree.
 const MOST_BYTES: usize = 65_536;
+
+/// The bytes of the longest text of a leaf.
+const MOST_LEAF_BYTES: usize = 4096;
+
+/// A node at the front of some bytes, what may still come in the tree around it, and the bytes after it.
+type Node<'a, T> = Result<(T, Room, &'a [u8]), Misread>;
 
 /// What a tree may still have: nodes, pattern leaves, and bytes up to the place after which `stop`
 /// bytes of the body are left.
@@ -52,28 +58,20 @@ impl Room {
         }
         let nodes = self.nodes - 1;
         match tag {
-            2 | 5 | 7 => {
-                if self.patterns == 0 {
-                    return None;
-                }
-                Some(Room {
-                    nodes,
-                    patterns: self.patterns - 1,
-                    stop: self.stop,
-                })
-            }
-            _ => Some(Room {
+            2 | 5 | 7 if self.patterns == 0 => None,
+            2 | 5 | 7 => Some(Room {
                 nodes,
-                patterns: self.patterns,
-                stop: self.stop,
+                patterns: self.patterns - 1,
+                ..self
             }),
+            _ => Some(Room { nodes, ..self }),
         }
     }
 }
 
 // The tag of a node.
 #[tactic(auto, unfolding(crate::specs::Decoding::tag_field))]
-fn tag_at(room: Room, bytes: &[u8]) -> Result<(u8, Room, &[u8]), Misread>
+fn tag_at(room: Room, bytes: &[u8]) -> Node<'_, u8>
     ensures { Gives (λ x. (x.0, x.1, x.2.now)) result (spec.tag_field room bytes.now) }
 {
     let bad = Misread::BadField(bytes.len());
@@ -89,31 +87,20 @@ fn tag_at(room: Room, bytes: &[u8]) -> Result<(u8, Room, &[u8]), Misread>
 
 // The text of a leaf.
 #[tactic(auto, unfolding(crate::specs::Decoding::leaf_text))]
-fn leaf_text_at(alloc: Global, stop: usize, bytes: &[u8]) -> Result<(Text, &[u8]), Misread>
+fn leaf_text_at(alloc: Global, stop: usize, bytes: &[u8]) -> Parsed<'_, Text>
     ensures { Gives (λ x. (x.0, x.1.now)) result (spec.leaf_text stop bytes.now) }
 {
     let bad = Misread::BadField(bytes.len());
     let (text, rest) = text_at(alloc, bytes)?;
     let length = text.as_bytes().len();
-    if length < 1 {
-        return Err(bad);
-    }
-    if length > 4096 {
-        return Err(bad);
-    }
-    if rest.len() < stop {
+    if length < 1 || length > MOST_LEAF_BYTES || rest.len() < stop {
         return Err(bad);
     }
     Ok((text, rest))
 }
 
 // So many ids, or this fault.
-fn ids_or(
-    alloc: Global,
-    count: u16,
-    bytes: &[u8],
-    bad: Misread,
-) -> Result<(Items<MinionId>, &[u8]), Misread>
+fn ids_or(alloc: Global, count: u16, bytes: &[u8], bad: Misread) -> Parsed<'_, Items<MinionId>>
     ensures { Gives (λ x. (x.0, x.1.now)) result (spec.several (spec.id_or bad) count bytes.now) }
 {
     let mut ids = Items::new(alloc);
@@ -131,20 +118,13 @@ fn ids_or(
 
 // The ids of a leaf.
 #[tactic(auto, unfolding(crate::specs::Decoding::leaf_ids))]
-fn leaf_ids_at(
-    alloc: Global,
-    stop: usize,
-    bytes: &[u8],
-) -> Result<(Items<MinionId>, &[u8]), Misread>
+fn leaf_ids_at(alloc: Global, stop: usize, bytes: &[u8]) -> Parsed<'_, Items<MinionId>>
     ensures { Gives (λ x. (x.0, x.1.now)) result (spec.leaf_ids stop bytes.now) }
 {
     let bad = Misread::BadField(bytes.len());
     let (count, rest) = u16_or(bytes, bad)?;
     let (ids, rest) = ids_or(alloc, count, rest, bad)?;
-    if count < 1 {
-        return Err(bad);
-    }
-    if rest.len() < stop {
+    if count < 1 || rest.len() < stop {
         return Err(bad);
     }
     Ok((ids, rest))
@@ -172,12 +152,7 @@ fn leaf(tag: u8, text: Text) -> Target
 
 // A leaf with a text, after its tag.
 #[tactic(auto, unfolding(crate::specs::Decoding::text_node))]
-fn text_node(
-    alloc: Global,
-    tag: u8,
-    room: Room,
-    bytes: &[u8],
-) -> Result<(Target, Room, &[u8]), Misread>
+fn text_node(alloc: Global, tag: u8, room: Room, bytes: &[u8]) -> Node<'_, Target>
     ensures { Gives (λ x. (x.0, x.1, x.2.now)) result (spec.text_node tag room bytes.now) }
 {
     if !is_text_tag(tag) {
@@ -189,7 +164,7 @@ fn text_node(
 
 // A leaf with ids, after its tag.
 #[tactic(auto, unfolding(crate::specs::Decoding::list_node))]
-fn list_node(alloc: Global, room: Room, bytes: &[u8]) -> Result<(Target, Room, &[u8]), Misread>
+fn list_node(alloc: Global, room: Room, bytes: &[u8]) -> Node<'_, Target>
     ensures { Gives (λ x. (x.0, x.1, x.2.now)) result (spec.list_node room bytes.now) }
 {
     let (ids, rest) = leaf_ids_at(alloc, room.stop, bytes)?;
@@ -199,12 +174,7 @@ fn list_node(alloc: Global, room: Room, bytes: &[u8]) -> Result<(Target, Room, &
 // A tree of at most so many levels, which may have no more than this.
 #[cycle(trees)]
 #[tactic(auto, using(crate::proofs::TreeSteps::tree_steps))]
-fn levels_at(
-    alloc: Global,
-    levels: usize,
-    room: Room,
-    bytes: &[u8],
-) -> Result<(Target, Room, &[u8]), Misread>
+fn levels_at(alloc: Global, levels: usize, room: Room, bytes: &[u8]) -> Node<'_, Target>
     ensures { Gives (λ x. (x.0, x.1, x.2.now)) result (spec.tree_at levels room bytes.now) }
 {
     if levels == 0 {
@@ -216,12 +186,7 @@ fn levels_at(
 
 // The same in a box.
 #[cycle(trees)]
-fn part_at(
-    alloc: Global,
-    levels: usize,
-    room: Room,
-    bytes: &[u8],
-) -> Result<(Boxed<Target>, Room, &[u8]), Misread>
+fn part_at(alloc: Global, levels: usize, room: Room, bytes: &[u8]) -> Node<'_, Boxed<Target>>
     ensures { Gives (λ x. (x.0, x.1, x.2.now)) result (spec.tree_at levels room bytes.now) }
 {
     let (tree, room, rest) = levels_at(alloc, levels, room, bytes)?;
@@ -230,12 +195,7 @@ fn part_at(
 
 #[cycle(trees)]
 #[tactic(auto, unfolding(crate::specs::Decoding::not_node))]
-fn not_node(
-    alloc: Global,
-    levels: usize,
-    room: Room,
-    bytes: &[u8],
-) -> Result<(Target, Room, &[u8]), Misread>
+fn not_node(alloc: Global, levels: usize, room: Room, bytes: &[u8]) -> Node<'_, Target>
     ensures { Gives (λ x. (x.0, x.1, x.2.now)) result (spec.not_node (spec.tree_at levels) room bytes.now) }
 {
     let (part, room, rest) = part_at(alloc, levels, room, bytes)?;
@@ -244,12 +204,7 @@ fn not_node(
 
 #[cycle(trees)]
 #[tactic(auto, unfolding(crate::specs::Decoding::and_node))]
-fn and_node(
-    alloc: Global,
-    levels: usize,
-    room: Room,
-    bytes: &[u8],
-) -> Result<(Target, Room, &[u8]), Misread>
+fn and_node(alloc: Global, levels: usize, room: Room, bytes: &[u8]) -> Node<'_, Target>
     ensures { Gives (λ x. (x.0, x.1, x.2.now)) result (spec.and_node (spec.tree_at levels) room bytes.now) }
 {
     let (left, room, rest) = part_at(alloc, levels, room, bytes)?;
@@ -259,12 +214,7 @@ fn and_node(
 
 #[cycle(trees)]
 #[tactic(auto, unfolding(crate::specs::Decoding::or_node))]
-fn or_node(
-    alloc: Global,
-    levels: usize,
-    room: Room,
-    bytes: &[u8],
-) -> Result<(Target, Room, &[u8]), Misread>
+fn or_node(alloc: Global, levels: usize, room: Room, bytes: &[u8]) -> Node<'_, Target>
     ensures { Gives (λ x. (x.0, x.1, x.2.now)) result (spec.or_node (spec.tree_at levels) room bytes.now) }
 {
     let (left, room, rest) = part_at(alloc, levels, room, bytes)?;
@@ -275,13 +225,7 @@ fn or_node(
 // What stands after the tag of a node whose parts may have so many levels.
 #[cycle(trees)]
 #[tactic(auto, unfolding(crate::specs::Decoding::node_after))]
-fn node_after(
-    alloc: Global,
-    levels: usize,
-    tag: u8,
-    room: Room,
-    bytes: &[u8],
-) -> Result<(Target, Room, &[u8]), Misread>
+fn node_after(alloc: Global, levels: usize, tag: u8, room: Room, bytes: &[u8]) -> Node<'_, Target>
     ensures { Gives (λ x. (x.0, x.1, x.2.now)) result (spec.node_after (spec.tree_at levels) tag room bytes.now) }
 {
     match tag {
@@ -295,7 +239,7 @@ fn node_after(
 
 // A whole tree.
 #[tactic(auto, unfolding(crate::specs::Decoding::tree_field))]
-pub fn tree_at(alloc: Global, bytes: &[u8]) -> Result<(Target, &[u8]), Misread>
+pub fn tree_at(alloc: Global, bytes: &[u8]) -> Parsed<'_, Target>
     ensures { Gives (λ x. (x.0, x.1.now)) result (spec.tree_field bytes.now) }
 {
     let (tree, _, rest) = levels_at(alloc, MOST_NODES, Room::whole(bytes), bytes)?;

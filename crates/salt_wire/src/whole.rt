@@ -1,13 +1,12 @@
-// Whole bodies, and fields at a place of a body, with places counted from the front.
-ghost use Rattle.std.specs.Prelude.{◌≡◌, ◌≤◌, length};
-ghost use Rattle.salt_wire.specs.Decoding.{Answers, placed, field_at, decoded, id_field, word_field, job_field, entry_field};
+// Whole bodies and fields, with places counted from the front.
+ghost use Rattle.std.specs.Prelude.{◌≡◌, ◌≤◌, ◌-◌, Ok, Err, IfOk, IfErr, length};
+ghost use Rattle.salt_wire.specs.Decoding.{Answers, placed, field_at, decoded, id_field};
 
 use crate::fault::{Misread, WireFault};
-use crate::fields::{id_at, word_at};
-use crate::message::{Entry, Job, Message};
-use crate::parts::{entry_at, job_at};
+use crate::fields::{Parsed, id_at};
+use crate::message::Message;
 use crate::reading::message_at;
-use salt_value::{MinionId, Word};
+use salt_value::MinionId;
 use std::alloc::Global;
 
 // A fault of a body of so many bytes by its place from the front.
@@ -50,38 +49,13 @@ pub fn id_from(body: &[u8], at: usize) -> Result<(MinionId, usize), WireFault>
     }
 }
 
-// The word that begins at a place, and the place after it.
-#[tactic(auto, unfolding(crate::specs::Decoding::field_at))]
-pub fn word_from(alloc: Global, body: &[u8], at: usize) -> Result<(Word, usize), WireFault>
-    requires { at ≤ length body.now }
-    ensures { Answers result (field_at word_field body.now at) }
+// What was read of a body at some place, and the place after it.
+pub fn placed_after<T>(body: &[u8], read: Parsed<'_, T>) -> Result<(T, usize), WireFault>
+    ensures ok { IfOk read.entry (λ x. result ≡ Ok (x.0, length body.now - length x.1.now)) }
+    ensures err { IfErr read.entry (λ e. result ≡ Err (placed (length body.now) e)) }
 {
-    match word_at(alloc, &body[at..]) {
-        Ok((word, rest)) => Ok((word, body.len().saturating_sub(rest.len()))),
-        Err(misread) => Err(place(misread, body.len())),
-    }
-}
-
-// The job that begins at a place, and the place after it.
-#[tactic(auto, unfolding(crate::specs::Decoding::field_at))]
-pub fn job_from(alloc: Global, body: &[u8], at: usize) -> Result<(Job, usize), WireFault>
-    requires { at ≤ length body.now }
-    ensures { Answers result (field_at job_field body.now at) }
-{
-    match job_at(alloc, &body[at..]) {
-        Ok((job, rest)) => Ok((job, body.len().saturating_sub(rest.len()))),
-        Err(misread) => Err(place(misread, body.len())),
-    }
-}
-
-// The entry that begins at a place, and the place after it.
-#[tactic(auto, unfolding(crate::specs::Decoding::field_at))]
-pub fn entry_from(alloc: Global, body: &[u8], at: usize) -> Result<(Entry, usize), WireFault>
-    requires { at ≤ length body.now }
-    ensures { Answers result (field_at entry_field body.now at) }
-{
-    match entry_at(alloc, &body[at..]) {
-        Ok((entry, rest)) => Ok((entry, body.len().saturating_sub(rest.len()))),
+    match read {
+        Ok((found, rest)) => Ok((found, body.len().saturating_sub(rest.len()))),
         Err(misread) => Err(place(misread, body.len())),
     }
 }

@@ -11,10 +11,12 @@ ghost use Rattle.salt_wire.specs.declared.message.Entry.{Entry};
 ghost use Rattle.salt_wire.specs.declared.message.Message.{Message};
 
 use crate::fault::WireFault;
+use crate::fields::word_at;
 use crate::laws::messages_read_back;
 use crate::message::{Entry, Job, Message};
-use crate::whole::{entry_from, id_from, job_from, whole, word_from};
-use crate::writing::{put_entry, put_id, put_job, put_message, put_word};
+use crate::parts::{entry_at, job_at};
+use crate::whole::{id_from, placed_after, whole};
+use crate::writing::{put_entry, put_id, put_job, put_message, put_word, whole_or_undone};
 use salt_value::{MinionId, Word};
 use std::alloc::{AllocError, Global};
 
@@ -38,13 +40,8 @@ pub fn encode(message: &Message, out: &mut Vec<u8>) -> Result<(), AllocError>
     ensures err { OnErr result (out.new.items ≡ out.old.items) }
 {
     let before = out.len();
-    match put_message(out, message) {
-        Ok(()) => Ok(()),
-        Err(e) => {
-            out.truncate(before);
-            Err(e)
-        }
-    }
+    let written = put_message(out, message);
+    whole_or_undone(out, before, written)
 }
 
 /// Appends an id, after the byte of its length. An error leaves all as it was.
@@ -53,13 +50,8 @@ pub fn write_id(id: &MinionId, out: &mut Vec<u8>) -> Result<(), AllocError>
     ensures err { OnErr result (out.new.items ≡ out.old.items) }
 {
     let before = out.len();
-    match put_id(out, id) {
-        Ok(()) => Ok(()),
-        Err(e) => {
-            out.truncate(before);
-            Err(e)
-        }
-    }
+    let written = put_id(out, id);
+    whole_or_undone(out, before, written)
 }
 
 /// Appends a word, after the two bytes of its length. An error leaves all as it was.
@@ -68,13 +60,8 @@ pub fn write_word(word: &Word, out: &mut Vec<u8>) -> Result<(), AllocError>
     ensures err { OnErr result (out.new.items ≡ out.old.items) }
 {
     let before = out.len();
-    match put_word(out, word) {
-        Ok(()) => Ok(()),
-        Err(e) => {
-            out.truncate(before);
-            Err(e)
-        }
-    }
+    let written = put_word(out, word);
+    whole_or_undone(out, before, written)
 }
 
 /// Appends a job that is within its limits. An error leaves all as it was.
@@ -84,13 +71,8 @@ pub fn write_job(job: &Job, out: &mut Vec<u8>) -> Result<(), AllocError>
     ensures err { OnErr result (out.new.items ≡ out.old.items) }
 {
     let before = out.len();
-    match put_job(out, job) {
-        Ok(()) => Ok(()),
-        Err(e) => {
-            out.truncate(before);
-            Err(e)
-        }
-    }
+    let written = put_job(out, job);
+    whole_or_undone(out, before, written)
 }
 
 /// Appends an entry that is within its limits. An error leaves all as it was.
@@ -100,13 +82,8 @@ pub fn write_entry(entry: &Entry, out: &mut Vec<u8>) -> Result<(), AllocError>
     ensures err { OnErr result (out.new.items ≡ out.old.items) }
 {
     let before = out.len();
-    match put_entry(out, entry) {
-        Ok(()) => Ok(()),
-        Err(e) => {
-            out.truncate(before);
-            Err(e)
-        }
-    }
+    let written = put_entry(out, entry);
+    whole_or_undone(out, before, written)
 }
 
 /// The id that begins at a place of a body, and the place after it; else `BadField` there.
@@ -138,7 +115,7 @@ pub fn read_word(alloc: Global, body: &[u8], at: usize) -> Result<(Word, usize),
     ensures exact { Answers result (field_at word_field body.now at) }
 {
     messages_read_back();
-    word_from(alloc, body, at)
+    placed_after(body, word_at(alloc, &body[at..]))
 }
 
 /// The job that begins at a place of a body, and the place after it; else `BadField` at the first
@@ -155,7 +132,7 @@ pub fn read_job(alloc: Global, body: &[u8], at: usize) -> Result<(Job, usize), W
     ensures exact { Answers result (field_at job_field body.now at) }
 {
     messages_read_back();
-    job_from(alloc, body, at)
+    placed_after(body, job_at(alloc, &body[at..]))
 }
 
 /// The entry that begins at a place of a body, and the place after it; else `BadField` at the first
@@ -172,5 +149,5 @@ pub fn read_entry(alloc: Global, body: &[u8], at: usize) -> Result<(Entry, usize
     ensures exact { Answers result (field_at entry_field body.now at) }
 {
     messages_read_back();
-    entry_from(alloc, body, at)
+    placed_after(body, entry_at(alloc, &body[at..]))
 }

@@ -1,5 +1,5 @@
 // Messages written as bytes. After an error some of the bytes may stand at the end.
-ghost use Rattle.std.specs.Prelude.{◌≡◌, ◌<◌, ◌≤◌, ◌^◌, ◌++◌, ◌∷◌, true, List, ℕ, length, map, OnOk, OnErr};
+ghost use Rattle.std.specs.Prelude.{◌≡◌, ◌<◌, ◌≤◌, ◌^◌, ◌++◌, ◌∷◌, true, List, ℕ, length, map, take, OnOk, OnErr};
 ghost use Rattle.std.specs.Int.{w16, w64, to_be_bytes};
 ghost use Rattle.salt_value.specs.Spelling.{bytes, text as spelled_text, joined};
 ghost use Rattle.target_tree.specs.Kinds.{code_of};
@@ -11,7 +11,7 @@ ghost use Rattle.salt_wire.specs.Limits.{IsText, JobFits, EntryFits, Within};
 ghost use Rattle.salt_wire.specs.Limits as limits;
 
 use crate::message::{Entry, Job, Message};
-use salt_value::{Jid, MinionId, Text, Value, Word, put_text, put_u16, put_u32, put_u64};
+use salt_value::{MinionId, Text, Value, Word, put_text, put_u16, put_u32, put_u64};
 use std::alloc::AllocError;
 use target_tree::{Kind, Target};
 
@@ -217,14 +217,6 @@ fn put_pub(out: &mut Vec<u8>, seq: u32, job: &Job) -> Result<(), AllocError>
     Ok(())
 }
 
-fn put_have(out: &mut Vec<u8>, jobs: u32) -> Result<(), AllocError>
-    ensures ok { OnOk result (out.new.items ≡ out.old.items ++ spelling.kind_and_fields (m.Have jobs)) }
-    ensures err { OnErr result ((more : List ℕ) × (out.new.items ≡ out.old.items ++ more)) }
-{
-    out.push(2)?;
-    put_u32(out, jobs)
-}
-
 fn put_up(out: &mut Vec<u8>, minion: &MinionId, n: u32, entry: &Entry) -> Result<(), AllocError>
     requires { Within (m.Up minion.now n entry.now) }
     ensures ok { OnOk result (out.new.items ≡ out.old.items ++ spelling.kind_and_fields (m.Up minion.now n entry.now)) }
@@ -236,66 +228,6 @@ fn put_up(out: &mut Vec<u8>, minion: &MinionId, n: u32, entry: &Entry) -> Result
     put_entry(out, entry)
 }
 
-fn put_up_have(out: &mut Vec<u8>, minion: &MinionId, n: u32) -> Result<(), AllocError>
-    ensures ok { OnOk result (out.new.items ≡ out.old.items ++ spelling.kind_and_fields (m.UpHave minion.now n)) }
-    ensures err { OnErr result ((more : List ℕ) × (out.new.items ≡ out.old.items ++ more)) }
-{
-    out.push(4)?;
-    put_id(out, minion)?;
-    put_u32(out, n)
-}
-
-fn put_hello(out: &mut Vec<u8>, id: &MinionId) -> Result<(), AllocError>
-    ensures ok { OnOk result (out.new.items ≡ out.old.items ++ spelling.kind_and_fields (m.Hello id.now)) }
-    ensures err { OnErr result ((more : List ℕ) × (out.new.items ≡ out.old.items ++ more)) }
-{
-    out.push(5)?;
-    put_id(out, id)
-}
-
-fn put_ask_publish(
-    out: &mut Vec<u8>,
-    kind: Kind,
-    tgt: &Text,
-    fun: &Word,
-    args: &[Value],
-) -> Result<(), AllocError>
-    requires { Within (m.AskPublish kind tgt.now fun.now args.now) }
-    ensures ok { OnOk result (out.new.items ≡ out.old.items ++ spelling.kind_and_fields (m.AskPublish kind tgt.now fun.now args.now)) }
-    ensures err { OnErr result ((more : List ℕ) × (out.new.items ≡ out.old.items ++ more)) }
-{
-    out.push(0x10)?;
-    put_asked(out, kind, tgt, fun)?;
-    put_items(out, args)
-}
-
-fn put_ask_report(out: &mut Vec<u8>, jid: Jid) -> Result<(), AllocError>
-    ensures ok { OnOk result (out.new.items ≡ out.old.items ++ spelling.kind_and_fields (m.AskReport jid)) }
-    ensures err { OnErr result ((more : List ℕ) × (out.new.items ≡ out.old.items ++ more)) }
-{
-    out.push(0x11)?;
-    put_u64(out, jid.micros())
-}
-
-fn put_ask_mine(out: &mut Vec<u8>, kind: Kind, tgt: &Text, fun: &Word) -> Result<(), AllocError>
-    requires { Within (m.AskMine kind tgt.now fun.now) }
-    ensures ok { OnOk result (out.new.items ≡ out.old.items ++ spelling.kind_and_fields (m.AskMine kind tgt.now fun.now)) }
-    ensures err { OnErr result ((more : List ℕ) × (out.new.items ≡ out.old.items ++ more)) }
-{
-    out.push(0x13)?;
-    put_asked(out, kind, tgt, fun)
-}
-
-fn put_answer(out: &mut Vec<u8>, status: u8, text: &Text) -> Result<(), AllocError>
-    requires { Within (m.Answer status text.now) }
-    ensures ok { OnOk result (out.new.items ≡ out.old.items ++ spelling.kind_and_fields (m.Answer status text.now)) }
-    ensures err { OnErr result ((more : List ℕ) × (out.new.items ≡ out.old.items ++ more)) }
-{
-    out.push(0x14)?;
-    out.push(status)?;
-    put_text(out, text.as_bytes())
-}
-
 // The kind and the fields of a message.
 fn put_fields_of(out: &mut Vec<u8>, message: &Message) -> Result<(), AllocError>
     requires { Within message.now }
@@ -303,29 +235,48 @@ fn put_fields_of(out: &mut Vec<u8>, message: &Message) -> Result<(), AllocError>
     ensures err { OnErr result ((more : List ℕ) × (out.new.items ≡ out.old.items ++ more)) }
 {
     match message {
-        Message::Pub { seq, job } => put_pub(out, *seq, job),
-        Message::Have { jobs } => put_have(out, *jobs),
-        Message::Up { minion, n, entry } => put_up(out, minion, *n, entry),
-        Message::UpHave { minion, n } => put_up_have(out, minion, *n),
-        Message::Hello { id } => put_hello(out, id),
-        Message::End => {
-            out.push(6)?;
-            Ok(())
+        Message::Pub { seq, job } => put_pub(out, *seq, job)?,
+        Message::Have { jobs } => {
+            out.push(2)?;
+            put_u32(out, *jobs)?;
         }
+        Message::Up { minion, n, entry } => put_up(out, minion, *n, entry)?,
+        Message::UpHave { minion, n } => {
+            out.push(4)?;
+            put_id(out, minion)?;
+            put_u32(out, *n)?;
+        }
+        Message::Hello { id } => {
+            out.push(5)?;
+            put_id(out, id)?;
+        }
+        Message::End => out.push(6)?,
         Message::AskPublish {
             kind,
             tgt,
             fun,
             args,
-        } => put_ask_publish(out, *kind, tgt, fun, args.as_slice()),
-        Message::AskReport { jid } => put_ask_report(out, *jid),
-        Message::AskJobs => {
-            out.push(0x12)?;
-            Ok(())
+        } => {
+            out.push(0x10)?;
+            put_asked(out, *kind, tgt, fun)?;
+            put_items(out, args.as_slice())?;
         }
-        Message::AskMine { kind, tgt, fun } => put_ask_mine(out, *kind, tgt, fun),
-        Message::Answer { status, text } => put_answer(out, *status, text),
+        Message::AskReport { jid } => {
+            out.push(0x11)?;
+            put_u64(out, jid.micros())?;
+        }
+        Message::AskJobs => out.push(0x12)?,
+        Message::AskMine { kind, tgt, fun } => {
+            out.push(0x13)?;
+            put_asked(out, *kind, tgt, fun)?;
+        }
+        Message::Answer { status, text } => {
+            out.push(0x14)?;
+            out.push(*status)?;
+            put_text(out, text.as_bytes())?;
+        }
     }
+    Ok(())
 }
 
 // The body of a message.
@@ -336,4 +287,20 @@ pub fn put_message(out: &mut Vec<u8>, message: &Message) -> Result<(), AllocErro
 {
     out.push(1)?;
     put_fields_of(out, message)
+}
+
+// What writing answered; after an error, what it wrote behind the first so many bytes is dropped.
+pub fn whole_or_undone(
+    out: &mut Vec<u8>,
+    before: usize,
+    written: Result<(), AllocError>,
+) -> Result<(), AllocError>
+    ensures same { result ≡ written }
+    ensures ok { OnOk result (out.new.items ≡ out.old.items) }
+    ensures err { OnErr result (out.new.items ≡ take before out.old.items) }
+{
+    if written.is_err() {
+        out.truncate(before);
+    }
+    written
 }
