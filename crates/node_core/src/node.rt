@@ -9,12 +9,12 @@ ghost use Rattle.node_core.specs.declared.logs.Logs.TheVariants.{Below};
 
 use crate::logs::{Logs, push_below};
 use crate::{
-    Counts, Entry, Job, Message, Outcome, PendFault, PublishFault, Record, Stray, TakeFault,
+    Counts, Entry, Glob, Job, Message, Outcome, PendFault, PublishFault, Record, Stray, TakeFault,
 };
 use fleet_config::Fleet;
 use indexmap::IndexMap;
 use salt_glob::glob;
-use salt_value::{Jid, MinionId, NodeId, Text};
+use salt_value::{Jid, MinionId, NodeId};
 use sqlite_items::Items;
 use std::alloc::{AllocError, Global};
 use std::marker::Model;
@@ -135,7 +135,7 @@ impl Node {
     }
 
     /// Publishes a job, at a moment in microseconds since 1970-01-01 UTC. After an `Err` the node is as before.
-    pub fn publish(&mut self, moment: u64, tgt: &Text) -> Result<Jid, PublishFault>
+    pub fn publish(&mut self, moment: u64, tgt: &Glob) -> Result<Jid, PublishFault>
         ensures published { IfOk result (λ jid. (publication moment (jobs self.old.records) ≡ Ok jid) × (self.new ≡ with_record (Record.Publish (record { jid = jid; tgt = tgt.now })) self.old)) }
         ensures refused { IfErr result (λ fault. fault ≢ PublishFault.NoMemory → publication moment (jobs self.old.records) ≡ Err fault) }
         ensures kept { OnErr result (self.new ≡ self.old) }

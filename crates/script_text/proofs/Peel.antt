@@ -5,7 +5,7 @@ use Rattle.std.specs.List.{AllByRecursion}
 use Rattle.std.proofs.lemmas.List.{append_cancel_left}
 use Rattle.fleet_config.specs.declared.fleet.Member.{Member}
 use Rattle.tree_world.specs.declared.turn.Turn.{Turn}
-use Rattle.tree_world.specs.declared.turn.Turn.TheVariants.{Publish, Send, Deliver, Report}
+use Rattle.tree_world.specs.declared.turn.Turn.TheVariants.{Publish, Send, Deliver, Report, Packet}
 use Rattle.script_text.specs.Script.{MayStand, turn_line, id_line, minion_lines, top_lines}
 use Rattle.script_text.specs.Draft.{IsOnly}
 
@@ -28,6 +28,7 @@ not_end f (Publish moment tgt) e = let h : 112 ≡ 37 = heads _ _ _ _ e in absur
 not_end f (Send from to count) e = let h : 115 ≡ 37 = heads _ _ _ _ e in absurd (omega (arith, h))
 not_end f (Deliver i) e = let h : 100 ≡ 37 = heads _ _ _ _ e in absurd (omega (arith, h))
 not_end f (Report jid) e = let h : 114 ≡ 37 = heads _ _ _ _ e in absurd (omega (arith, h))
+not_end f (Packet i) e = let h : 112 ≡ 37 = heads _ _ _ _ e in absurd (omega (arith, h))
 
 pub same_id : (a b : List ℕ) → id_line a ≡ id_line b → a ≡ b
 same_id a b e = append_cancel_left (codes "- id: ") a b e

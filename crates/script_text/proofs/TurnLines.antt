@@ -5,7 +5,7 @@ use Rattle.std.proofs.lemmas.List.{append_cancel_left, append_cancel_right}
 use Rattle.salt_value.specs.declared.id.NodeId.{NodeId}
 use Rattle.salt_value.specs.Reading.{Decodes}
 use Rattle.tree_world.specs.declared.turn.Turn.{Turn}
-use Rattle.tree_world.specs.declared.turn.Turn.TheVariants.{Publish, Send, Deliver, Report}
+use Rattle.tree_world.specs.declared.turn.Turn.TheVariants.{Publish, Send, Deliver, Report, Packet}
 use Rattle.script_text.specs.Script.{MayStand, IsPattern, turn_line}
 use Rattle.script_text.specs.Fleet.{fleet_by}
 use Rattle.script_text.specs.Turns.{target_text, IsPublication, publication_text, IsSending, sending_text, are_neighbours}
@@ -30,6 +30,7 @@ sent ids line rest e (Send a b n) v h = (
 )
 sent ids line rest e (Deliver i) v h = let k : 100 ≡ 115 = heads _ _ _ _ (h ∙ e) in absurd (omega (arith, k))
 sent ids line rest e (Report jid) v h = let k : 114 ≡ 115 = heads _ _ _ _ (h ∙ e) in absurd (omega (arith, k))
+sent ids line rest e (Packet i) v h = absurd v.1
 
 pub send_found : (ids : List (List ℕ)) (line rest : List ℕ) (p : NodeId × (NodeId × ℕ)) → line ≡ codes "send " ++ rest
     → Decodes (IsSending (fleet_by ids)) (sending_text (fleet_by ids)) rest (Some p) → are_neighbours p.0.0 p.1.0.0 ≡ true
@@ -61,6 +62,7 @@ published ids line rest e (Publish moment tgt) v h = ((moment, tgt), refl, (v.0,
 published ids line rest e (Send a b n) v h = let k : 115 ≡ 112 = heads _ _ _ _ (h ∙ e) in absurd (omega (arith, k))
 published ids line rest e (Deliver i) v h = let k : 100 ≡ 112 = heads _ _ _ _ (h ∙ e) in absurd (omega (arith, k))
 published ids line rest e (Report jid) v h = let k : 114 ≡ 112 = heads _ _ _ _ (h ∙ e) in absurd (omega (arith, k))
+published ids line rest e (Packet i) v h = absurd v.1
 
 pub publish_found : (ids : List (List ℕ)) (line rest : List ℕ) (p : ℕ × List ℕ) → line ≡ codes "publish " ++ rest
     → Decodes IsPublication publication_text rest (Some p) → Decodes (MayStand (fleet_by ids)) (turn_line (fleet_by ids)) line (Some (Publish p.0 p.1))

@@ -6,7 +6,7 @@ use Rattle.salt_value.specs.Jid.{jid_text}
 use Rattle.fleet_config.specs.declared.fleet.Member.{Member}
 use Rattle.fleet_config.specs.Tree.{flat_fleet, id_of}
 use Rattle.tree_world.specs.declared.turn.Turn.{Turn}
-use Rattle.tree_world.specs.declared.turn.Turn.TheVariants.{Publish, Send, Deliver, Report}
+use Rattle.tree_world.specs.declared.turn.Turn.TheVariants.{Publish, Send, Deliver, Report, Packet}
 use Rattle.tree_world.specs.Network.{IsTurn}
 use Rattle.script_text.specs.declared.script.Script.{Script}
 use Rattle.script_text.specs.Lines.{lines_of, spaced}
@@ -41,16 +41,17 @@ is_pattern_byte b = nat_le 33 b && nat_le b 126 && not (b == 34) && not (b == 92
 abbrev pub IsPattern : List ℕ → Type 0
 IsPattern bytes = (0 < length bytes) × (length bytes ≤ 256) × IsTrue (list_all is_pattern_byte bytes)
 
--- a publication is for a pattern
-abbrev pub HasPattern : Turn → Type 0
-HasPattern (Publish moment tgt) = IsPattern tgt
-HasPattern (Send from to count) = Unit {0}
-HasPattern (Deliver i) = Unit {0}
-HasPattern (Report jid) = Unit {0}
+-- a publication is for a pattern, and no packet is printed
+abbrev pub IsBuilt : Turn → Type 0
+IsBuilt (Publish moment tgt) = IsPattern tgt
+IsBuilt (Send from to count) = Unit {0}
+IsBuilt (Deliver i) = Unit {0}
+IsBuilt (Report jid) = Unit {0}
+IsBuilt (Packet i) = ⊥
 
 -- a turn that a schedule of this fleet may have
 abbrev pub MayStand : List Member → Turn → Type 0
-MayStand f turn = IsTurn f turn × HasPattern turn
+MayStand f turn = IsTurn f turn × IsBuilt turn
 
 -- the list of one quoted pattern
 abbrev pub quoted : List ℕ → List ℕ
@@ -62,6 +63,7 @@ turn_line f (Publish moment tgt) = spaced (codes "publish" ∷ decimal moment �
 turn_line f (Send from to count) = spaced (codes "send" ∷ id_of f from.0 ∷ id_of f to.0 ∷ decimal count ∷ [])
 turn_line f (Deliver i) = spaced (codes "deliver" ∷ decimal i ∷ [])
 turn_line f (Report jid) = spaced (codes "report" ∷ jid_text jid ∷ [])
+turn_line f (Packet i) = spaced (codes "packet" ∷ decimal i ∷ [])
 
 -- the line of an id
 abbrev pub id_line : List ℕ → List ℕ

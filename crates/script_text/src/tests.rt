@@ -38,6 +38,7 @@ fn refused_lines_of_schedules(rt: HostRuntime) -> Result<(), Fail> {
         ("%end", 0),
         ("%end\n", 0),
         ("settle\n%end\n", 12),
+        ("packet 0\n%end\n", 12),
         ("publish 0 glob test.ping [\"*\"]\n%end\n", 0),
         (
             "publish 18446744073709551615 glob test.ping [\"m[!1]\"]\n%end\n",
@@ -158,6 +159,7 @@ fn told(turn: &Turn) -> (u32, u64) {
         ),
         Turn::Deliver { packet } => (3, *packet),
         Turn::Report { .. } => (4, 0),
+        Turn::Packet { packet } => (5, *packet),
     }
 }
 
@@ -189,7 +191,7 @@ fn reads_what_stands_there(rt: HostRuntime) -> Result<(), Fail> {
         assert_eq!(rt; told(turn), *want);
     }
     match &turns[0] {
-        Turn::Publish { tgt, .. } => assert_eq!(rt; tgt.as_str(), "m[!1]"),
+        Turn::Publish { tgt, .. } => assert_eq!(rt; tgt.text().as_str(), "m[!1]"),
         _ => assert!(rt; false),
     }
     match &turns[4] {

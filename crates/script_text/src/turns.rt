@@ -12,6 +12,7 @@ ghost use Rattle.script_text.specs.Turns.{target_text, IsPublication, publicatio
 
 use crate::lines::{cut, read_number, strip_back, strip_front};
 use indexmap::IndexSet;
+use node_core::Glob;
 use salt_value::{Jid, MinionId, NodeId, Text};
 use std::alloc::{AllocError, Global};
 use std::str;
@@ -55,7 +56,7 @@ fn read_publish(
 }
 
 // `MOMENT glob test.ping ["PATTERN"]`.
-fn read_publication(alloc: Global, text: &[u8]) -> Result<Option<(u64, Text)>, AllocError>
+fn read_publication(alloc: Global, text: &[u8]) -> Result<Option<(u64, Glob)>, AllocError>
     ensures { IfOk result (Decodes IsPublication publication_text text.now) }
 {
     let Some((digits, rest)) = cut(text, b' ') else {
@@ -71,7 +72,7 @@ fn read_publication(alloc: Global, text: &[u8]) -> Result<Option<(u64, Text)>, A
 }
 
 // The pattern of `glob test.ping ["PATTERN"]`.
-fn read_target(alloc: Global, text: &[u8]) -> Result<Option<Text>, AllocError>
+fn read_target(alloc: Global, text: &[u8]) -> Result<Option<Glob>, AllocError>
     ensures { IfOk result (Decodes IsPattern target_text text.now) }
 {
     let Some(rest) = strip_front(text, b"glob test.ping [\"") else {
@@ -102,15 +103,26 @@ fn is_pattern(text: &[u8]) -> bool
 }
 
 // The pattern that this text is.
-fn read_pattern(alloc: Global, text: &[u8]) -> Result<Option<Text>, AllocError>
+fn read_pattern(alloc: Global, text: &[u8]) -> Result<Option<Glob>, AllocError>
     ensures { IfOk result (Decodes IsPattern (λ tgt. tgt) text.now) }
 {
     if !is_pattern(text) {
         return Ok(None);
     }
     match str::from_utf8(text) {
-        Ok(pattern) => Ok(Some(Text::new(String::from_str(alloc, pattern)?))),
+        Ok(pattern) => Ok(Some(target(Text::new(String::from_str(alloc, pattern)?)))),
         Err(_) => Ok(None),
+    }
+}
+
+// The target that a pattern is.
+fn target(pattern: Text) -> Glob
+    requires { IsPattern pattern }
+    ensures { result ≡ pattern }
+{
+    match Glob::new(pattern) {
+        Ok(tgt) => tgt,
+        Err(_) => unreachable!(),
     }
 }
 

@@ -65,6 +65,7 @@ after_grows f (kind.Publish moment tgt) w =
 after_grows f (kind.Send from to count) w = λ i. prefix_same (node_at w.nodes i).records
 after_grows f (kind.Deliver i) w = delivered_grows f w i
 after_grows f (kind.Report jid) w = λ i. prefix_same (node_at w.nodes i).records
+after_grows f (kind.Packet i) w = λ j. prefix_same (node_at w.nodes j).records
 
 pub run_grows : (f : List Member) (turns : List Turn) (w : Network) → Grew w (after_all f turns w)
 run_grows f [] w = λ i. prefix_same (node_at w.nodes i).records

@@ -12,7 +12,7 @@ use Rattle.node_core.specs.Flat.{entries_of, flat_up, acts, return_of}
 use Rattle.node_core.specs.Records.{jobs_held, log, log_after}
 use Rattle.node_core.specs.Node.{NodeState, Answer, taken}
 use Rattle.node_core.specs.Node.Answer.{IsStray}
-use Rattle.tree_world.specs.declared.turn.Packet.{Packet}
+use Rattle.tree_world.specs.Packets.{Packet}
 use Rattle.tree_world.specs.Network.{Network, node_at, top_jobs}
 use Rattle.tree_laws.specs.Laws.{IsPrefixOfParent, ActedOnce, AreJobsInOrder, NamesHeldJobs, IsTaken, outcome_at, flat_outcome, IsOutcomeFlat, IsReportFlat, IsReportSoFar, has_returned}
 use Rattle.tree_world.specs.Report.{row_of, report, flat_report, by_id, placed, place_for}

@@ -176,6 +176,7 @@ after_step f (kind.Publish moment tgt) w fleet t h = publish_step f w moment tgt
 after_step f (kind.Send from to count) w fleet t h = send_step f w from.0 to.0 count h t.0 t.1 (pending_fits f from.0 to.0 (node_at w.nodes from.0) fleet t.3)
 after_step f (kind.Deliver i) w fleet t h = delivered_step f w i fleet h
 after_step f (kind.Report jid) w fleet t h = h
+after_step f (kind.Packet i) w fleet t h = h
 
 pub run_holds : (f : List Member) (turns : List Turn) (w : Network) → IsFleet f → AllByRecursion (IsTurn f) turns → Holds f w → Holds f (after_all f turns w)
 run_holds f [] w fleet t h = h

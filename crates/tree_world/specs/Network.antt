@@ -10,9 +10,10 @@ use Rattle.fleet_config.specs.Tree.{is_parent}
 use Rattle.node_core.specs.Records.{jobs}
 use Rattle.node_core.specs.Node.{NodeState, Answer, first_node, with_record, taken, pending, publication}
 use Rattle.node_core.specs.Node.Answer.{IsStray, Silent, Reply}
-use Rattle.tree_world.specs.declared.turn.Packet.{Packet}
+use Rattle.tree_world.specs.Packets.{Packet}
 use Rattle.tree_world.specs.declared.turn.Turn.{Turn}
 use Rattle.tree_world.specs.declared.turn.Turn.TheVariants.{Publish, Send, Deliver, Report}
+use Rattle.tree_world.specs.declared.turn.Turn.TheVariants as t
 
 pub record Network : Type 0 where
   pub nodes : List NodeState
@@ -84,6 +85,7 @@ after f (Publish moment tgt) w = published tgt (publication moment (top_jobs w))
 after f (Send from to count) w = with_packets w (sent f from.0 to.0 count w)
 after f (Deliver i) w = delivered f w (slice_get w.packets i)
 after f (Report jid) w = w
+after f (t.Packet i) w = w
 
 abbrev pub after_all : List Member → List Turn → Network → Network
 after_all f [] w = w
@@ -96,3 +98,4 @@ IsTurn f (Send from to count) =
     (from.0 < length f) × (to.0 < length f) × (count < 2 ^ 64) × ((is_parent f from.0 to.0 ≡ true) ⊎ (is_parent f to.0 from.0 ≡ true))
 IsTurn f (Deliver i) = i < 2 ^ 64
 IsTurn f (Report jid) = jid ≤ 253402300799999999
+IsTurn f (t.Packet i) = i < 2 ^ 64

@@ -1,7 +1,9 @@
 -- The printed text, by cases on the turn and the network.
-use Rattle.std.specs.Prelude.{ℕ, ◌==◌, Bool, List, [], ◌∷◌, ◌++◌, length, flat_map, position, Option, None, Some, Result, Ok, Err, codes, decimal, if◌then◌else◌}
+use Rattle.std.specs.Prelude.{ℕ, ◌==◌, Bool, List, [], ◌∷◌, ◌++◌, length, flat_map, position, slice_get, Option, None, Some, Result, Ok, Err, codes, decimal, if◌then◌else◌}
+use Rattle.hex.specs.Hex.{encode_lower}
 use Rattle.salt_value.specs.Jid.{jid_text}
 use Rattle.fleet_config.specs.declared.fleet.Member.{Member}
+use Rattle.fleet_config.specs.Tree.{id_of}
 use Rattle.node_core.specs.declared.job.Job.{Job}
 use Rattle.node_core.specs.declared.job.Row.{Row}
 use Rattle.node_core.specs.declared.faults.PublishFault.{PublishFault}
@@ -9,7 +11,9 @@ use Rattle.node_core.specs.declared.faults.PublishFault.TheVariants.{JobsFull, J
 use Rattle.node_core.specs.Node.{publication}
 use Rattle.tree_world.specs.declared.turn.Turn.{Turn}
 use Rattle.tree_world.specs.declared.turn.Turn.TheVariants.{Publish, Send, Deliver, Report}
+use Rattle.tree_world.specs.declared.turn.Turn.TheVariants as t
 use Rattle.tree_world.specs.Network.{Network, node_at, top_jobs, after, start}
+use Rattle.tree_world.specs.Packets.{Packet, body_of}
 use Rattle.tree_world.specs.Report.{report}
 
 -- a line with its line feed
@@ -50,12 +54,22 @@ abbrev pub report_text : List Member → Network → ℕ → Option ℕ → List
 report_text f w jid None = unknown_text jid
 report_text f w jid (Some seq) = rows_text jid (report f (node_at w.nodes 0).records seq)
 
+abbrev pub missing_text : ℕ → List ℕ
+missing_text i = line (codes "packet " ++ decimal i ++ codes " none")
+
+-- a packet's number, the ids of its sender and its receiver, and its body in hexadecimal digits
+abbrev pub packet_text : List Member → ℕ → Option Packet → List ℕ
+packet_text f i None = missing_text i
+packet_text f i (Some p) =
+    line (codes "packet " ++ decimal i ++ codes " " ++ id_of f p.from.0 ++ codes " " ++ id_of f p.to.0 ++ codes " " ++ encode_lower (body_of p.message))
+
 -- what a turn prints
 abbrev pub printed : List Member → Turn → Network → List ℕ
 printed f (Publish moment tgt) w = publish_text (publication moment (top_jobs w))
 printed f (Send from to count) w = []
 printed f (Deliver i) w = []
 printed f (Report jid) w = report_text f w jid (number_of jid (top_jobs w))
+printed f (t.Packet i) w = packet_text f i (slice_get w.packets i)
 
 -- the text of a run from here on
 abbrev pub text_from : List Member → List Turn → Network → List ℕ

@@ -1,5 +1,5 @@
-use node_core::Message;
-use salt_value::{Jid, NodeId, Text};
+use node_core::Glob;
+use salt_value::{Jid, NodeId};
 
 /// One line of a schedule.
 #[derive(Debug, Drop)]
@@ -7,7 +7,7 @@ pub enum Turn {
     /// Publishes `test.ping` at the top for the minions whose ids match the glob, at a moment in microseconds since 1970-01-01 UTC.
     Publish {
         moment: u64,
-        tgt: Text,
+        tgt: Glob,
     },
     /// Appends the first pending messages of a node for its neighbour to the packets. A count over 4,294,967,295 means that number.
     Send {
@@ -23,12 +23,8 @@ pub enum Turn {
     Report {
         jid: Jid,
     },
-}
-
-/// A message on its way.
-#[derive(Debug, Drop)]
-pub struct Packet {
-    pub from: NodeId,
-    pub to: NodeId,
-    pub message: Message,
+    /// Prints the packet with this number, from 0.
+    Packet {
+        packet: u64,
+    },
 }

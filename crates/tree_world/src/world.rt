@@ -4,18 +4,18 @@ ghost use Rattle.std.specs.Str.{bytes_eq};
 ghost use Rattle.fleet_config.specs.Tree.{flat_fleet};
 ghost use Rattle.node_core.specs.Node.{first_node, pending, taken, is_neighbour};
 ghost use Rattle.tree_world.specs.Network.{node_at, with_reply, replied};
-ghost use Rattle.tree_world.specs.declared.turn.Packet.{Packet};
+ghost use Rattle.tree_world.specs.Packets.{Packet};
 ghost use Rattle.tree_world.specs.Network as network;
 ghost use Rattle.salt_outside.specs.Causes.{Rose};
 ghost use Rattle.salt_outside.specs.Streams.{appended, IsPart};
 
 use crate::report::{by_id, rows_of};
-use crate::text::{number_of, publish_text, rows_text, unknown_text};
+use crate::text::{missing_text, number_of, packet_text, publish_text, rows_text, unknown_text};
 use crate::{Packet, Turn};
 use fleet_config::Fleet;
-use node_core::{Message, Node, PublishFault, TakeFault};
+use node_core::{Glob, Message, Node, PublishFault, TakeFault};
 use salt_outside::{Outside, Sink};
-use salt_value::{Jid, MinionId, NodeId, Text};
+use salt_value::{Jid, MinionId, NodeId};
 use sqlite_items::{Items, at};
 use std::alloc::{AllocError, Global};
 use std::marker::Model;
@@ -123,11 +123,15 @@ impl World {
                 let text = self.report(*jid)?;
                 tell(sink, &text)
             }
+            Turn::Packet { packet } => {
+                let text = self.packet(*packet)?;
+                tell(sink, &text)
+            }
         }
     }
 
     // A publication at the top, and its line.
-    fn publish(&mut self, moment: u64, tgt: &Text) -> Result<Vec<u8>, AllocError>
+    fn publish(&mut self, moment: u64, tgt: &Glob) -> Result<Vec<u8>, AllocError>
         ensures state { OnOk result (self.new.network ≡ after self.old.fleet (Turn.Publish moment tgt.now) self.old.network) }
         ensures fleet { self.new.fleet ≡ self.old.fleet }
         ensures text { IfOk result (λ text. text.items ≡ printed self.old.fleet (Turn.Publish moment tgt.now) self.old.network) }
@@ -140,7 +144,7 @@ impl World {
     fn publish_at_top(
         &mut self,
         moment: u64,
-        tgt: &Text,
+        tgt: &Glob,
     ) -> Result<Result<Jid, PublishFault>, AllocError>
         ensures outcome { IfOk result (λ outcome. outcome ≡ publication moment (top_jobs self.old.network)) }
         ensures state { IfOk result (λ outcome. self.new.network ≡ published tgt.now outcome self.old.network) }
@@ -170,6 +174,16 @@ impl World {
         rows_text(self.alloc, jid, &rows)
     }
 
+    // The line of a packet.
+    fn packet(&self, i: u64) -> Result<Vec<u8>, AllocError>
+        ensures { IfOk result (λ text. text.items ≡ printed self.now.fleet (Turn.Packet i) self.now.network) }
+    {
+        match at(&self.packets, i as usize) {
+            Some(packet) => packet_text(self.alloc, &self.fleet, i, packet),
+            None => missing_text(self.alloc, i),
+        }
+    }
+
     // The pending messages of a node for a neighbour, as packets.
     fn send(&mut self, from: NodeId, to: NodeId, count: u64) -> Result<(), AllocError>
         requires from { from.0 < length self.old.fleet }
@@ -179,7 +193,7 @@ impl World {
     {
         let max = count.min(u32::MAX as u64) as u32;
         let messages = pending_of(&self.fleet, &self.nodes, from, to, max)?;
-        push_packets(&mut self.packets, from, to, messages)
+        push_packets(self.alloc, &mut self.packets, from, to, messages)
     }
 
     // The receiver takes a packet, and its reply is a packet.
@@ -192,18 +206,19 @@ impl World {
         let Some(packet) = at(&self.packets, i as usize) else {
             return Ok(());
         };
-        let (from, to) = (packet.from, packet.to);
+        let (from, to) = (packet.from(), packet.to());
         if to.0 as usize >= self.nodes.len() {
             return Ok(());
         }
-        let reply = take_packet(&self.fleet, &mut self.nodes, packet)?;
-        push_reply(&mut self.packets, from, to, reply)?;
+        let reply = take_packet(self.alloc, &self.fleet, &mut self.nodes, packet)?;
+        push_reply(self.alloc, &mut self.packets, from, to, reply)?;
         Ok(())
     }
 }
 
 // The receiver takes a packet, and may reply.
 fn take_packet(
+    alloc: Global,
     fleet: &Fleet,
     nodes: &mut Vec<Node>,
     packet: &Packet,
@@ -214,8 +229,9 @@ fn take_packet(
     ensures reply { IfOk result (λ reply. (packets : List Packet) → with_reply packet.now (taken fleet.now packet.now.to.0 packet.now.from.0 packet.now.message (node_at nodes.old.items packet.now.to.0)).answer packets ≡ replied packet.now reply packets) }
     ensures count { length nodes.new.items ≡ length nodes.old.items }
 {
-    let node = &mut nodes[packet.to.0 as usize];
-    match node.take(fleet, packet.to, packet.from, &packet.message) {
+    let message = packet.message(alloc)?;
+    let node = &mut nodes[packet.to().0 as usize];
+    match node.take(fleet, packet.to(), packet.from(), &message) {
         Ok(reply) => Ok(reply),
         Err(TakeFault::Stray { .. }) => Ok(None),
         Err(TakeFault::NoMemory) => Err(AllocError),
@@ -224,6 +240,7 @@ fn take_packet(
 
 // A reply as a packet, if there is one.
 fn push_reply(
+    alloc: Global,
     packets: &mut Vec<Packet>,
     from: NodeId,
     to: NodeId,
@@ -232,11 +249,7 @@ fn push_reply(
     ensures { (p : Packet) → p.from ≡ from → p.to ≡ to → OnOk result (packets.new.items ≡ replied p reply packets.old.items) }
 {
     if let Some(message) = reply {
-        packets.push(Packet {
-            from: to,
-            to: from,
-            message,
-        })?;
+        packets.push(Packet::new(alloc, to, from, &message)?)?;
     }
     Ok(())
 }
@@ -262,6 +275,7 @@ fn pending_of(
 
 // These messages as packets, after those that are there.
 fn push_packets(
+    alloc: Global,
     packets: &mut Vec<Packet>,
     from: NodeId,
     to: NodeId,
@@ -270,7 +284,7 @@ fn push_packets(
     ensures { OnOk result (packets.new.items ≡ packets.old.items ++ map (network.packet from.0 to.0) messages.items) }
 {
     for message in messages {
-        packets.push(Packet { from, to, message })?;
+        packets.push(Packet::new(alloc, from, to, &message)?)?;
     }
     Ok(())
 }

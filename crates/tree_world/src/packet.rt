@@ -1,0 +1,102 @@
+ghost use Rattle.std.specs.Prelude.{◌≡◌, IfOk, string_bytes};
+ghost use Rattle.salt_wire.specs.Decoding.{decoded};
+ghost use Rattle.hex.specs.Hex.{encode_lower};
+ghost use Rattle.tree_world.specs.Packets as packets;
+
+use crate::wire::{heard_message, sent_message};
+use node_core::Message;
+use salt_value::NodeId;
+use salt_wire::{WireFault, decode, encode, messages_read_back};
+use std::alloc::{AllocError, Global};
+use std::marker::Model;
+
+/// A packet: its sender, its receiver, and its body. Contracts see the message that the body spells.
+#[derive(Debug, Drop)]
+pub struct Packet {
+    from: NodeId,
+    to: NodeId,
+    body: Vec<u8>,
+}
+
+impl Model for Packet {
+    ghost use Rattle.tree_world.specs.Packets.{Packet, message_in, IsBody};
+
+    ghost Value = { Packet };
+
+    ghost view = { λ p. record { from = p.from; to = p.to; message = message_in p.body.items } };
+
+    ghost invariant = { λ p. IsBody p.body.items };
+}
+
+impl Packet {
+    ghost use Rattle.tree_world.specs.Network.{packet};
+    ghost use Rattle.tree_world.specs.Packets.{body_of};
+
+    /// The packet of a message.
+    pub fn new(
+        alloc: Global,
+        from: NodeId,
+        to: NodeId,
+        message: &Message,
+    ) -> Result<Packet, AllocError>
+        ensures { IfOk result (λ p. p ≡ packet from.0 to.0 message.now) }
+    {
+        let body = body_of(alloc, message)?;
+        Ok(Packet { from, to, body })
+    }
+
+    /// The sender.
+    pub fn from(&self) -> NodeId
+        ensures { result ≡ self.now.from }
+    {
+        self.from
+    }
+
+    /// The receiver.
+    pub fn to(&self) -> NodeId
+        ensures { result ≡ self.now.to }
+    {
+        self.to
+    }
+
+    /// The message, read from the body.
+    pub fn message(&self, alloc: Global) -> Result<Message, AllocError>
+        ensures { IfOk result (λ message. message ≡ self.now.message) }
+    {
+        message_of(alloc, &self.body)
+    }
+
+    /// The body in hexadecimal digits.
+    pub fn hex(&self, alloc: Global) -> Result<String, AllocError>
+        ensures { IfOk result (λ text. string_bytes text ≡ encode_lower (body_of self.now.message)) }
+    {
+        hex::encode(alloc, self.body.as_slice())
+    }
+}
+
+// The body of a message, which is read as that message.
+fn body_of(alloc: Global, message: &Message) -> Result<Vec<u8>, AllocError>
+    ensures body { IfOk result (λ body. packets.IsBody body.items) }
+    ensures message { IfOk result (λ body. packets.message_in body.items ≡ message.now) }
+{
+    messages_read_back();
+    let message = sent_message(alloc, message)?;
+    let mut body = Vec::new(alloc);
+    encode(&message, &mut body)?;
+    Ok(body)
+}
+
+// The message of a body. Only memory can be wanted.
+fn message_of(alloc: Global, body: &[u8]) -> Result<Message, AllocError>
+    requires { packets.IsBody body.now }
+    ensures { IfOk result (λ message. message ≡ packets.message_in body.now) }
+{
+    match decode(alloc, body) {
+        Ok(message) => match heard_message(message) {
+            Some(message) => Ok(message),
+            None => unreachable!(),
+        },
+        Err(WireFault::NoMemory) => Err(AllocError),
+        Err(_) => unreachable!(),
+    }
+}
