@@ -1,6 +1,9 @@
 //! Laws of whole runs of the network: what holds after every list of turns, for every fleet.
 #![tactic(auto)]
 
+#[cfg(test)]
+mod tests;
+
 ghost use Rattle.std.specs.List.{All, AllByRecursion};
 ghost use Rattle.std.specs.Prelude.{◌≡◌, ◌<◌, ◌++◌, ℕ, true, List, length};
 ghost use Rattle.fleet_config.specs.declared.fleet.Member.{Member};
