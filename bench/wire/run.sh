@@ -53,6 +53,8 @@ awk '
             key = order[row]
             plain = least["plain", key]
             own = least["salt_wire", key]
-            printf "%s %d %.1f %.1f %.0f %.0f %.2f %d+%d\n", key, size[key], plain, own, 1000 * size[key] / plain, 1000 * size[key] / own, own / plain, count["plain", key], count["salt_wire", key]
+            printf "%s %d %.1f %.1f ", key, size[key], plain, own
+            printf "%.0f %.0f %.2f ", 1000 * size[key] / plain, 1000 * size[key] / own, own / plain
+            printf "%d+%d\n", count["plain", key], count["salt_wire", key]
         }
     }' times

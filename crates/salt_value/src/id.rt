@@ -60,7 +60,10 @@ pub enum IdFault {
 fn is_id_byte(b: u8) -> bool
     ensures { result ≡ spec.is_id_byte b }
 {
-    matches!(b, b'A'..=b'Z' | b'a'..=b'z' | b'0'..=b'9' | b'.' | b'_' | b'-')
+    b.is_ascii_uppercase()
+        || b.is_ascii_lowercase()
+        || b.is_ascii_digit()
+        || matches!(b, b'.' | b'_' | b'-')
 }
 
 // The place of the first byte that is in no id.
