@@ -1,6 +1,6 @@
 -- What a ready tree stands for, one equation for each kind, and whether that holds.
-use Rattle.std.proofs.Common.{◌≡◌, ◌⊎◌, inl, inr, ℕ, Bool, true, false, not, ◌&&◌, ◌||◌, List, sym, ap, ◌∙◌}
-use Rattle.std.specs.Prelude.{None, Some, bytes_eq}
+use Rattle.std.proofs.Common.{◌≡◌, ◌⊎◌, inl, inr, ℕ, Bool, true, false, not, ◌&&◌, ◌||◌, List, refl, sym, ap, ◌∙◌}
+use Rattle.std.specs.Prelude.{None, Some, [], bytes_eq, if◌then◌else◌}
 use Rattle.std.specs.List.{list_any}
 use Rattle.salt_glob.specs.Globs.{glob}
 use Rattle.target_tree.specs.declared.target.Target.{Target, fold-roll-Target}
@@ -10,7 +10,7 @@ use Rattle.target_match.specs.declared.ready.Ready.{Ready, fold-roll-Ready}
 use Rattle.target_match.specs.declared.ready.Ready.TheVariants as R
 use Rattle.target_match.specs.declared.ready.Ready.TheOpen.{Ready-F}
 use Rattle.target_match.specs.Patterns.{starts}
-use Rattle.target_match.specs.Holds.{Data, holds_layer, holds, glob_holds, pattern_holds, decided}
+use Rattle.target_match.specs.Holds.{Data, holds_layer, holds, by_id_layer, is_by_id, glob_holds, pattern_holds, decided}
 use Rattle.target_match.specs.ById.{both, either, negated}
 use Rattle.target_match.specs.Ready.{target_layer, target_of}
 use Rattle.target_match.proofs.ById as I
@@ -138,3 +138,32 @@ or_holds false x y e h = absurd cc
 pub or_rest : (b x y : Bool) → b ≡ x → b ≡ false → y ≡ (x || y)
 or_rest true x y e h = absurd cc
 or_rest false x y e h = ap (λ z. z || y) e
+
+-- where the id alone decides a tree, none of those leaves is there, and the id alone decides each part
+none_given : (b x : Bool) → None ≡ (if b then Some x else None) → b ≡ true → ⊥
+none_given true x e h = cc
+none_given false x e h = cc
+
+pub more_needed : (tree : Ready) → NeedsMore tree → is_by_id (target_of tree) ≡ true → ⊥
+more_needed tree e h = none_given (is_by_id (target_of tree)) (holds (target_of tree) [] [] []) (undecided tree [] e [] []) h
+
+pub not_part : (tree one : Ready) → tree ≡ R.Not one → is_by_id (target_of tree) ≡ true → is_by_id (target_of one) ≡ true
+not_part tree one e h =
+    sym (ap is_by_id (of-Not one ∙ sym (T.rolls-Not (target_of one))) ∙ fold-roll-Target Bool by_id_layer (Target-F.Not (target_of one)))
+    ∙ ap (λ t. is_by_id (target_of t)) (sym e) ∙ h
+
+both_true : (a b : Bool) → (a && b) ≡ true → (a ≡ true) × (b ≡ true)
+both_true true b h = (refl, h)
+both_true false b h = absurd cc
+
+pub and_parts : (tree left right : Ready) → tree ≡ R.And left right → is_by_id (target_of tree) ≡ true → (is_by_id (target_of left) ≡ true) × (is_by_id (target_of right) ≡ true)
+and_parts tree left right e h =
+    both_true (is_by_id (target_of left)) (is_by_id (target_of right))
+    (sym (ap is_by_id (of-And left right ∙ sym (T.rolls-And (target_of left) (target_of right))) ∙ fold-roll-Target Bool by_id_layer (Target-F.And (target_of left) (target_of right)))
+    ∙ ap (λ t. is_by_id (target_of t)) (sym e) ∙ h)
+
+pub or_parts : (tree left right : Ready) → tree ≡ R.Or left right → is_by_id (target_of tree) ≡ true → (is_by_id (target_of left) ≡ true) × (is_by_id (target_of right) ≡ true)
+or_parts tree left right e h =
+    both_true (is_by_id (target_of left)) (is_by_id (target_of right))
+    (sym (ap is_by_id (of-Or left right ∙ sym (T.rolls-Or (target_of left) (target_of right))) ∙ fold-roll-Target Bool by_id_layer (Target-F.Or (target_of left) (target_of right)))
+    ∙ ap (λ t. is_by_id (target_of t)) (sym e) ∙ h)

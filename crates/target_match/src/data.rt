@@ -1,5 +1,5 @@
 //! Globs of paths into grains and pillar.
-ghost use Rattle.std.specs.Prelude.{◌≡◌, IfOk, map};
+ghost use Rattle.std.specs.Prelude.{◌≡◌, IfOk, map, bytes_eq};
 ghost use Rattle.std.specs.List.{list_any};
 ghost use Rattle.salt_glob.specs.Lowered.{glob_caseless};
 ghost use Rattle.salt_value.specs.Keys.{under};
@@ -63,11 +63,18 @@ fn child_meets(
     ensures { IfOk result (λ b. b ≡ child_passes (under key.now (told_pairs pairs.now)) (parts text.now)) }
 {
     for (name, child) in pairs {
-        if name.as_bytes() == key.as_bytes() {
+        if is_key(name, key.as_bytes()) {
             return meets(alloc, child, text);
         }
     }
     Ok(false)
+}
+
+/// Whether this is the key on the way, with regard to case.
+pub fn is_key(name: &Text, key: &[u8]) -> bool
+    ensures { result ≡ bytes_eq name.now key.now }
+{
+    name.as_bytes() == key
 }
 
 fn any_key_meets(pairs: &[(Text, Value)], glob: &str) -> bool

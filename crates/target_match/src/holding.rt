@@ -1,6 +1,6 @@
 //! Whether a ready tree holds for a minion.
-ghost use Rattle.std.specs.Prelude.{◌≡◌, IfOk};
-ghost use Rattle.target_match.specs.Holds.{holds};
+ghost use Rattle.std.specs.Prelude.{◌≡◌, IfOk, IsOk, IsTrue};
+ghost use Rattle.target_match.specs.Holds.{holds, is_by_id};
 ghost use Rattle.target_match.specs.Ready.{target_of};
 
 use crate::data::pairs_meet;
@@ -20,7 +20,8 @@ pub fn holds<'m>(
     grains: &[(Text, Value)],
     pillar: &[(Text, Value)],
 ) -> Result<bool, AllocError>
-    ensures { IfOk result (λ b. b ≡ holds (target_of ready.now) id.now grains.now pillar.now) }
+    ensures value { IfOk result (λ b. b ≡ holds (target_of ready.now) id.now grains.now pillar.now) }
+    ensures memory { IsTrue (is_by_id (target_of ready.now)) → IsOk result }
 {
     match ready {
         Ready::IdGlob(text) => Ok(glob(text.as_bytes(), id.as_bytes())),

@@ -1,6 +1,6 @@
 //! A target that is ready for matching.
-ghost use Rattle.std.specs.Prelude.{◌≡◌, ℕ, [], IfOk, IsErrOf};
-ghost use Rattle.target_match.specs.Holds.{Data, holds, decided, patterns, AreReadable, IsBadAt};
+ghost use Rattle.std.specs.Prelude.{◌≡◌, ℕ, [], IfOk, IsOk, IsErrOf, IsTrue};
+ghost use Rattle.target_match.specs.Holds.{Data, holds, is_by_id, decided, patterns, AreReadable, IsBadAt};
 
 use crate::BuildFault;
 use crate::building::ready;
@@ -55,9 +55,11 @@ impl Matcher {
     }
 
     /// Whether the target holds for a minion with this id, these grains and this pillar (Salt documentation, Targeting Minions).
-    /// It takes memory for the digits of numbers and for the searches of patterns alone.
+    /// It takes memory for the digits of numbers and for the searches of patterns alone, and so none where each leaf is a glob
+    /// of the id or a list of ids.
     pub fn holds(&self, id: &MinionId, grains: &Fields, pillar: &Fields) -> Result<bool, AllocError>
-        ensures { IfOk result (λ b. b ≡ holds self.now id.now grains.now pillar.now) }
+        ensures value { IfOk result (λ b. b ≡ holds self.now id.now grains.now pillar.now) }
+        ensures memory { IsTrue (is_by_id self.now) → IsOk result }
     {
         let mut searches = self.searches();
         self.holds_with(&mut searches, id, grains, pillar)
@@ -78,7 +80,8 @@ impl Matcher {
         grains: &Fields,
         pillar: &Fields,
     ) -> Result<bool, AllocError>
-        ensures { IfOk result (λ b. b ≡ holds self.now id.now grains.now pillar.now) }
+        ensures value { IfOk result (λ b. b ≡ holds self.now id.now grains.now pillar.now) }
+        ensures memory { IsTrue (is_by_id self.now) → IsOk result }
     {
         holds(
             self.alloc,

@@ -6,7 +6,7 @@ ghost use Rattle.salt_value.specs.Keys.{under};
 ghost use Rattle.target_match.specs.Patterns.{IsCompiled, starts};
 ghost use Rattle.target_match.specs.Data.{reached, text_reached, map_reached, child_passes, reached_pairs};
 
-use crate::data::name_of;
+use crate::data::{is_key, name_of};
 use crate::pattern::starts;
 use regex::{Matcher, Regex};
 use salt_value::{Text, Value};
@@ -107,7 +107,7 @@ fn child_reached(
     ensures kept { matcher_pattern matcher.new ≡ matcher_pattern matcher.old }
 {
     for (name, child) in pairs {
-        if name.as_bytes() == key.as_bytes() {
+        if is_key(name, key.as_bytes()) {
             return reached(alloc, matcher, pattern, child, path);
         }
     }

@@ -288,10 +288,11 @@ static PATTERNS: [(&str, &str); 74] = [
     ("ec2:tags:[z-a]", "BadPattern { leaf: 0 }"),
 ];
 
-static OTHER_KINDS: [(Kind, &str, &str); 54] = [
+static OTHER_KINDS: [(Kind, &str, &str); 55] = [
     (Kind::Glob, "web*", "true Some(true)"),
     (Kind::Glob, "WEB*", "false Some(false)"),
     (Kind::Glob, "eb1*", "false Some(false)"),
+    (Kind::Glob, "", "Empty"),
     (Kind::List, "a,web1.example.com", "true Some(true)"),
     (Kind::List, "a,web1", "false Some(false)"),
     (Kind::List, "WEB1.example.com", "false Some(false)"),
@@ -446,83 +447,79 @@ fn other_kinds_hold(rt: HostRuntime) -> Result<(), Fail> {
     Ok(())
 }
 
-// Whether the fleet of a table is told apart by a compound: of each minion its id, one grain, one value of its pillar and the answer.
-static FLEET: [(&str, &str, (&str, &str), (&str, &str), &str); 9] = [
+// Whether the fleet of a table is told apart by a compound: of each minion its id, its grains, its pillar and the answer.
+static FLEET: [(&str, &str, &[(&str, Data)], &[(&str, Data)], &str); 12] = [
     (
         "web* and G@os:debian or E@db[0-9]",
         "web1.example.com",
-        ("os", "Debian"),
-        ("", ""),
+        &[("os", Data::Str("Debian")), ("osrelease", Data::Str("12"))],
+        &[],
         "true None",
     ),
     (
         "web* and G@os:debian or E@db[0-9]",
         "web2.example.com",
-        ("os", "Arch"),
-        ("", ""),
+        &[("os", Data::Str("Arch"))],
+        &[],
         "false None",
     ),
     (
         "web* and G@os:debian or E@db[0-9]",
         "db1",
-        ("os", "Arch"),
-        ("", ""),
+        &[("os", Data::Str("Arch"))],
+        &[],
         "true None",
     ),
     (
         "web* and G@os:debian or E@db[0-9]",
         "db12",
-        ("os", "Arch"),
-        ("", ""),
+        &[("os", Data::Str("Arch"))],
+        &[],
         "true None",
     ),
     (
         "not ( L@a,b and not I@role:db )",
         "a",
-        ("", ""),
-        ("role", "db"),
+        &[],
+        &[("role", Data::Str("db"))],
         "true None",
     ),
     (
         "not ( L@a,b and not I@role:db )",
         "b",
-        ("", ""),
-        ("role", "web"),
+        &[],
+        &[("role", Data::Str("web"))],
         "false None",
     ),
     (
         "not ( L@a,b and not I@role:db )",
         "c",
-        ("", ""),
-        ("", ""),
+        &[],
+        &[],
         "true None",
     ),
     (
         "not (L@a,b and not I@role:db)",
         "a",
-        ("", ""),
-        ("", ""),
+        &[],
+        &[("role", Data::Str("db"))],
         "Word { at: 1 }",
     ),
-    ("web* or L@a", "a", ("", ""), ("", ""), "true Some(true)"),
+    ("( a or", "a", &[], &[], "Word { at: 3 }"),
+    ("( a", "a", &[], &[], "Unclosed"),
+    ("R@x", "a", &[], &[], "BadLetter { at: 0 }"),
+    ("web* or L@a", "a", &[], &[], "true Some(true)"),
 ];
-
-fn one_pair(alloc: Global, pair: (&str, &str)) -> Result<Fields, AllocError> {
-    let mut fields = Fields::new(alloc);
-    let value = Value::Str(text_of(alloc, pair.1)?);
-    put(&mut fields, text_of(alloc, pair.0)?, value)?;
-    Ok(fields)
-}
 
 fn fleet_row(
     alloc: Global,
     id: MinionId,
     target: &str,
-    grain: (&str, &str),
-    pillar: (&str, &str),
+    grains: &[(&'static str, Data)],
+    pillar: &[(&'static str, Data)],
 ) -> Result<String, AllocError> {
-    let grains = one_pair(alloc, grain)?;
-    let pillar = one_pair(alloc, pillar)?;
+    let grains = fields_of(alloc, grains)?;
+    let pillar = fields_of(alloc, pillar)?;
     let minion = Minion { id, grains, pillar };
     outcome(
         alloc,
@@ -535,9 +532,9 @@ fn fleet_row(
 #[test]
 fn compounds_tell_a_fleet_apart(rt: HostRuntime) -> Result<(), Fail> {
     let alloc = rt.alloc();
-    for (target, name, grain, pillar, want) in &FLEET {
+    for (target, name, grains, pillar, want) in &FLEET {
         if let Ok(id) = MinionId::read(name) {
-            let given = fleet_row(alloc, id, target, *grain, *pillar)?;
+            let given = fleet_row(alloc, id, target, grains, pillar)?;
             assert_eq!(rt; given.as_str(), *want, "at {target} of {name}");
         }
     }

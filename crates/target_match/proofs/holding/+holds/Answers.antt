@@ -1,93 +1,136 @@
-use Rattle.std.proofs.Common.{sym, ap, ◌∙◌, not}
+use Rattle.std.proofs.Common.{◌≡◌, inl, inr, true, false, sym, ap, ◌∙◌, not}
 use Rattle.std.specs.Prelude.{bytes_eq}
 use Rattle.std.specs.List.{list_any}
 use Rattle.salt_glob.specs.Globs.{glob}
 use Rattle.target_match.specs.Patterns.{starts}
 use Rattle.target_match.specs.Paths.{parts}
 use Rattle.target_match.specs.Data.{map_meets, told_pairs}
-use Rattle.target_match.specs.Holds.{holds}
+use Rattle.target_match.specs.Holds.{holds, is_by_id}
 use Rattle.target_match.specs.Ready.{target_of}
 use Rattle.target_match.proofs.Meeting.{carried, glob-holds}
 use Rattle.target_match.proofs.Readied as R
 use Rattle.target_match.proofs.holding.+holds.Goals as goal
 
-pub returns-in-IdGlob : goal.returns-in-IdGlob
-returns-in-IdGlob t c =
+pub returns-in-IdGlob-clause-value : goal.returns-in-IdGlob-clause-value
+returns-in-IdGlob-clause-value t c =
     let a = c.args in
     c.glob.ensures.value ∙ ap (λ x. glob x c.as_bytes-in-IdGlob.result.now) c.as_bytes.ensures ∙ ap (glob c.in-IdGlob.text) c.as_bytes-in-IdGlob.ensures.value
     ∙ sym (R.holds-IdGlob c.in-IdGlob.text a.id.now a.grains.now a.pillar.now) ∙ ap (λ x. holds (target_of x) a.id.now a.grains.now a.pillar.now) (sym c.in-IdGlob.is)
 
-pub returns-in-IdPcre : goal.returns-in-IdPcre
-returns-in-IdPcre t c =
+pub returns-in-IdPcre-clause-value : goal.returns-in-IdPcre-clause-value
+returns-in-IdPcre-clause-value t c =
     let a = c.args in
     carried c.holds.result _ _ c.holds.ensures (ap (starts c.in-IdPcre.pattern) c.as_str.ensures.value
     ∙ sym (R.holds-IdPcre c.in-IdPcre.pattern a.id.now a.grains.now a.pillar.now) ∙ ap (λ x. holds (target_of x) a.id.now a.grains.now a.pillar.now) (sym c.in-IdPcre.is))
 
-pub returns-in-IdList : goal.returns-in-IdList
-returns-in-IdList t c =
+pub returns-in-IdList-clause-value : goal.returns-in-IdList-clause-value
+returns-in-IdList-clause-value t c =
     let a = c.args in
     c.contains.ensures ∙ ap (λ l. list_any (λ other. bytes_eq other c.as_bytes-in-IdList.result.now) l) c.as_slice.ensures
     ∙ ap (λ id. list_any (λ other. bytes_eq other id) c.in-IdList.ids) c.as_bytes-in-IdList.ensures.value
     ∙ sym (R.holds-IdList c.in-IdList.ids a.id.now a.grains.now a.pillar.now) ∙ ap (λ x. holds (target_of x) a.id.now a.grains.now a.pillar.now) (sym c.in-IdList.is)
 
-pub returns-in-GrainGlob : goal.returns-in-GrainGlob
-returns-in-GrainGlob t c =
+pub returns-in-GrainGlob-clause-value : goal.returns-in-GrainGlob-clause-value
+returns-in-GrainGlob-clause-value t c =
     let a = c.args in
     carried c.pairs_meet.result _ _ c.pairs_meet.ensures (ap (λ x. map_meets (told_pairs a.grains.now) (parts x)) c.as_str-in-GrainGlob.ensures
     ∙ sym (glob-holds c.in-GrainGlob.text a.grains.now)
     ∙ sym (R.holds-GrainGlob c.in-GrainGlob.text a.id.now a.grains.now a.pillar.now) ∙ ap (λ x. holds (target_of x) a.id.now a.grains.now a.pillar.now) (sym c.in-GrainGlob.is))
 
-pub returns-in-GrainPcre : goal.returns-in-GrainPcre
-returns-in-GrainPcre t c =
+pub returns-in-GrainPcre-clause-value : goal.returns-in-GrainPcre-clause-value
+returns-in-GrainPcre-clause-value t c =
     let a = c.args in
     carried c.holds-in-GrainPcre.result _ _ c.holds-in-GrainPcre.ensures
     (sym (R.holds-GrainPcre c.in-GrainPcre.pattern a.id.now a.grains.now a.pillar.now) ∙ ap (λ x. holds (target_of x) a.id.now a.grains.now a.pillar.now) (sym c.in-GrainPcre.is))
 
-pub returns-in-PillarGlob : goal.returns-in-PillarGlob
-returns-in-PillarGlob t c =
+pub returns-in-PillarGlob-clause-value : goal.returns-in-PillarGlob-clause-value
+returns-in-PillarGlob-clause-value t c =
     let a = c.args in
     carried c.pairs_meet-in-PillarGlob.result _ _ c.pairs_meet-in-PillarGlob.ensures (ap (λ x. map_meets (told_pairs a.pillar.now) (parts x)) c.as_str-in-PillarGlob.ensures
     ∙ sym (glob-holds c.in-PillarGlob.text a.pillar.now)
     ∙ sym (R.holds-PillarGlob c.in-PillarGlob.text a.id.now a.grains.now a.pillar.now) ∙ ap (λ x. holds (target_of x) a.id.now a.grains.now a.pillar.now) (sym c.in-PillarGlob.is))
 
-pub returns-in-PillarPcre : goal.returns-in-PillarPcre
-returns-in-PillarPcre t c =
+pub returns-in-PillarPcre-clause-value : goal.returns-in-PillarPcre-clause-value
+returns-in-PillarPcre-clause-value t c =
     let a = c.args in
     carried c.holds-in-PillarPcre.result _ _ c.holds-in-PillarPcre.ensures
     (sym (R.holds-PillarPcre c.in-PillarPcre.pattern a.id.now a.grains.now a.pillar.now) ∙ ap (λ x. holds (target_of x) a.id.now a.grains.now a.pillar.now) (sym c.in-PillarPcre.is))
 
-pub returns-in_ok-holds-in-Not : goal.returns-in_ok-holds-in-Not
-returns-in_ok-holds-in-Not t c =
+pub returns-in_ok-holds-in-Not-clause-value : goal.returns-in_ok-holds-in-Not-clause-value
+returns-in_ok-holds-in-Not-clause-value t c =
     let a = c.args in
-    ap not (c.in_ok-holds-in-Not.ensures ∙ ap (λ x. holds (target_of x) a.id.now a.grains.now a.pillar.now) c.get.ensures)
+    ap not (c.in_ok-holds-in-Not.ensures.value ∙ ap (λ x. holds (target_of x) a.id.now a.grains.now a.pillar.now) c.get.ensures)
     ∙ sym (R.holds-Not c.in-Not.one a.id.now a.grains.now a.pillar.now) ∙ ap (λ x. holds (target_of x) a.id.now a.grains.now a.pillar.now) (sym c.in-Not.is)
 
-pub returns-then-not-branch : goal.returns-then-not-branch
-returns-then-not-branch t c =
+pub returns-then-not-branch-clause-value : goal.returns-then-not-branch-clause-value
+returns-then-not-branch-clause-value t c =
     let a = c.args in
-    let left = c.in_ok-holds-in-And.ensures ∙ ap (λ x. holds (target_of x) a.id.now a.grains.now a.pillar.now) c.get-in-And.ensures in
+    let left = c.in_ok-holds-in-And.ensures.value ∙ ap (λ x. holds (target_of x) a.id.now a.grains.now a.pillar.now) c.get-in-And.ensures in
     R.and_fails _ _ _ left c.if-not-branch.true
     ∙ sym (R.holds-And c.in-And.left c.in-And.right a.id.now a.grains.now a.pillar.now) ∙ ap (λ x. holds (target_of x) a.id.now a.grains.now a.pillar.now) (sym c.in-And.is)
 
-pub returns-else-not-branch : goal.returns-else-not-branch
-returns-else-not-branch t c =
+pub returns-else-not-branch-clause-value : goal.returns-else-not-branch-clause-value
+returns-else-not-branch-clause-value t c =
     let a = c.args in
-    let left = c.in_ok-holds-in-And.ensures ∙ ap (λ x. holds (target_of x) a.id.now a.grains.now a.pillar.now) c.get-in-And.ensures in
-    carried c.holds-in-And-2.result _ _ c.holds-in-And-2.ensures (ap (λ x. holds (target_of x) a.id.now a.grains.now a.pillar.now) c.get-in-And-2.ensures
+    let left = c.in_ok-holds-in-And.ensures.value ∙ ap (λ x. holds (target_of x) a.id.now a.grains.now a.pillar.now) c.get-in-And.ensures in
+    carried c.holds-in-And-2.result _ _ c.holds-in-And-2.ensures.value (ap (λ x. holds (target_of x) a.id.now a.grains.now a.pillar.now) c.get-in-And-2.ensures
     ∙ R.and_rest _ _ _ left c.if-not-branch.false
     ∙ sym (R.holds-And c.in-And.left c.in-And.right a.id.now a.grains.now a.pillar.now) ∙ ap (λ x. holds (target_of x) a.id.now a.grains.now a.pillar.now) (sym c.in-And.is))
 
-pub returns-then-branch : goal.returns-then-branch
-returns-then-branch t c =
+pub returns-then-branch-clause-value : goal.returns-then-branch-clause-value
+returns-then-branch-clause-value t c =
     let a = c.args in
-    let left = c.in_ok-holds-in-Or.ensures ∙ ap (λ x. holds (target_of x) a.id.now a.grains.now a.pillar.now) c.get-in-Or.ensures in
+    let left = c.in_ok-holds-in-Or.ensures.value ∙ ap (λ x. holds (target_of x) a.id.now a.grains.now a.pillar.now) c.get-in-Or.ensures in
     R.or_holds _ _ _ left c.if-branch.true
     ∙ sym (R.holds-Or c.in-Or.left c.in-Or.right a.id.now a.grains.now a.pillar.now) ∙ ap (λ x. holds (target_of x) a.id.now a.grains.now a.pillar.now) (sym c.in-Or.is)
 
-pub returns-else-branch : goal.returns-else-branch
-returns-else-branch t c =
+pub returns-else-branch-clause-value : goal.returns-else-branch-clause-value
+returns-else-branch-clause-value t c =
     let a = c.args in
-    let left = c.in_ok-holds-in-Or.ensures ∙ ap (λ x. holds (target_of x) a.id.now a.grains.now a.pillar.now) c.get-in-Or.ensures in
-    carried c.holds-in-Or-2.result _ _ c.holds-in-Or-2.ensures (ap (λ x. holds (target_of x) a.id.now a.grains.now a.pillar.now) c.get-in-Or-2.ensures
+    let left = c.in_ok-holds-in-Or.ensures.value ∙ ap (λ x. holds (target_of x) a.id.now a.grains.now a.pillar.now) c.get-in-Or.ensures in
+    carried c.holds-in-Or-2.result _ _ c.holds-in-Or-2.ensures.value (ap (λ x. holds (target_of x) a.id.now a.grains.now a.pillar.now) c.get-in-Or-2.ensures
     ∙ R.or_rest _ _ _ left c.if-branch.false
     ∙ sym (R.holds-Or c.in-Or.left c.in-Or.right a.id.now a.grains.now a.pillar.now) ∙ ap (λ x. holds (target_of x) a.id.now a.grains.now a.pillar.now) (sym c.in-Or.is))
+
+pub returns-in-IdPcre-clause-memory : goal.returns-in-IdPcre-clause-memory
+returns-in-IdPcre-clause-memory t c = λ h. absurd (R.more_needed c.args.ready.now (inl (c.in-IdPcre.pattern, c.in-IdPcre.is)) h)
+
+pub returns-in-GrainGlob-clause-memory : goal.returns-in-GrainGlob-clause-memory
+returns-in-GrainGlob-clause-memory t c = λ h. absurd (R.more_needed c.args.ready.now (inr (inl (c.in-GrainGlob.text, c.in-GrainGlob.is))) h)
+
+pub returns-in-GrainPcre-clause-memory : goal.returns-in-GrainPcre-clause-memory
+returns-in-GrainPcre-clause-memory t c = λ h. absurd (R.more_needed c.args.ready.now (inr (inr (inl (c.in-GrainPcre.pattern, c.in-GrainPcre.is)))) h)
+
+pub returns-in-PillarGlob-clause-memory : goal.returns-in-PillarGlob-clause-memory
+returns-in-PillarGlob-clause-memory t c = λ h. absurd (R.more_needed c.args.ready.now (inr (inr (inr (inl (c.in-PillarGlob.text, c.in-PillarGlob.is))))) h)
+
+pub returns-in-PillarPcre-clause-memory : goal.returns-in-PillarPcre-clause-memory
+returns-in-PillarPcre-clause-memory t c = λ h. absurd (R.more_needed c.args.ready.now (inr (inr (inr (inr (c.in-PillarPcre.pattern, c.in-PillarPcre.is))))) h)
+
+pub returns-in_err-holds-in-Not-clause-memory : goal.returns-in_err-holds-in-Not-clause-memory
+returns-in_err-holds-in-Not-clause-memory t c = λ h.
+    let one = ap (λ x. is_by_id (target_of x)) c.get.ensures ∙ R.not_part c.args.ready.now c.in-Not.one c.in-Not.is h in
+    let ok : false ≡ true = c.in_err-holds-in-Not.ensures.memory one in
+    absurd cc
+
+pub returns-in_err-holds-in-And-clause-memory : goal.returns-in_err-holds-in-And-clause-memory
+returns-in_err-holds-in-And-clause-memory t c = λ h.
+    let both = R.and_parts c.args.ready.now c.in-And.left c.in-And.right c.in-And.is h in
+    let ok : false ≡ true = c.in_err-holds-in-And.ensures.memory (ap (λ x. is_by_id (target_of x)) c.get-in-And.ensures ∙ both.0) in
+    absurd cc
+
+pub returns-else-not-branch-clause-memory : goal.returns-else-not-branch-clause-memory
+returns-else-not-branch-clause-memory t c = λ h.
+    let both = R.and_parts c.args.ready.now c.in-And.left c.in-And.right c.in-And.is h in
+    c.holds-in-And-2.ensures.memory (ap (λ x. is_by_id (target_of x)) c.get-in-And-2.ensures ∙ both.1)
+
+pub returns-in_err-holds-in-Or-clause-memory : goal.returns-in_err-holds-in-Or-clause-memory
+returns-in_err-holds-in-Or-clause-memory t c = λ h.
+    let both = R.or_parts c.args.ready.now c.in-Or.left c.in-Or.right c.in-Or.is h in
+    let ok : false ≡ true = c.in_err-holds-in-Or.ensures.memory (ap (λ x. is_by_id (target_of x)) c.get-in-Or.ensures ∙ both.0) in
+    absurd cc
+
+pub returns-else-branch-clause-memory : goal.returns-else-branch-clause-memory
+returns-else-branch-clause-memory t c = λ h.
+    let both = R.or_parts c.args.ready.now c.in-Or.left c.in-Or.right c.in-Or.is h in
+    c.holds-in-Or-2.ensures.memory (ap (λ x. is_by_id (target_of x)) c.get-in-Or-2.ensures ∙ both.1)

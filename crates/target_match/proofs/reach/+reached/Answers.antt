@@ -32,12 +32,12 @@ child_reached-reached-requires t c =
     let same = ap (λ p. size-Value p.1) c.loop-name-item.is in
     (omega (arith, below, same), (c.requires.compiled, c.loop-name.invariant.kept ∙ c.requires.same))
 
-pub child_reached-returns-then-eq-clause-value :
-    goal.child_reached-returns-then-eq-clause-value
-child_reached-returns-then-eq-clause-value t c =
+pub child_reached-returns-then-is_key-clause-value :
+    goal.child_reached-returns-then-is_key-clause-value
+child_reached-returns-then-is_key-clause-value t c =
     let p = regex_source c.args.pattern.now in
     let d = c.loop-name-item.result in
-    let here = ap (λ k. bytes_eq k c.args.key.now) (sym (ap (λ q. q.0) c.loop-name-item.is)) ∙ ap (λ k. bytes_eq k c.args.key.now) (sym c.as_bytes.ensures) ∙ ap (bytes_eq c.as_bytes.result.now) (sym c.as_bytes-in-loop-name.ensures) ∙ sym c.eq.ensures ∙ c.if-eq.true in
+    let here = ap (λ k. bytes_eq k c.args.key.now) (sym (ap (λ q. q.0) c.loop-name-item.is)) ∙ ap (bytes_eq d.0) (sym c.as_bytes.ensures) ∙ sym c.is_key.ensures ∙ c.if-is_key.true in
     carried c.reached.result _ _ c.reached.ensures.value (sym (c.loop-name.invariant.same
     ∙ child-found (reached (starts p)) c.args.key.now c.args.pairs.now c.loop-name.name-index d c.args.path.now c.loop-name-test.true here
     ∙ ap (λ q. reached (starts p) q.1 c.args.path.now) (sym c.loop-name-item.is)))
