@@ -70,7 +70,7 @@ fn child_meets(
     Ok(false)
 }
 
-/// Whether this is the key on the way, with regard to case.
+/// Whether a map's key is the part of a path, with regard to case.
 pub fn is_key(name: &Text, key: &[u8]) -> bool
     ensures { result ≡ bytes_eq name.now key.now }
 {
