@@ -161,10 +161,10 @@ module _ (l : Lower) (trees : IsReadBack tree TreeFits tree_field) where
 
   -- ---- messages
 
-  abbrev IsStatus : ℕ → Type 0
+  abbrev pub IsStatus : ℕ → Type 0
   IsStatus n = is_status n ≡ true
 
-  statuses : IsReadBack one_byte IsStatus status_field
+  pub statuses : IsReadBack one_byte IsStatus status_field
   unfolding status_field
   statuses = record {
     written = λ n rest h. rw ((a_byte l).written n rest (status_low n h), h) refl;

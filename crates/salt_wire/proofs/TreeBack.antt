@@ -23,7 +23,7 @@ use Rattle.salt_wire.proofs.WriteLemmas.{both_true}
 
 -- ---- rooms
 
-abbrev made : ℕ → ℕ → ℕ → Room
+abbrev pub made : ℕ → ℕ → ℕ → Room
 made n p s = record { nodes = n; patterns = p; stop = s }
 
 same_room : (n m p q s : ℕ) → n ≡ m → p ≡ q → made n p s ≡ made m q s
@@ -33,13 +33,13 @@ same_room n m p q s e f = ap₂ (λ (a b : ℕ). made a b s) e f
 abbrev pub left : Room → Target → Room
 left room x = made (room.nodes - nodes x) (room.patterns - patterns x) room.stop
 
-abbrev cost : ℕ → ℕ
+abbrev pub cost : ℕ → ℕ
 cost tag = cond (is_pattern_tag tag) 1 0
 
-record Entered (room next : Room) (tag : ℕ) : Type 0 where
-  one : next.nodes + 1 ≡ room.nodes
-  pattern : next.patterns + cost tag ≡ room.patterns
-  stop : next.stop ≡ room.stop
+pub record Entered (room next : Room) (tag : ℕ) : Type 0 where
+  pub one : next.nodes + 1 ≡ room.nodes
+  pub pattern : next.patterns + cost tag ≡ room.patterns
+  pub stop : next.stop ≡ room.stop
 
 entered : (room : Room) (tag : ℕ) (next : Room) → room_after room tag ≡ Some next → Entered room next tag
 entered room tag next e = by (eqb room.nodes 0) refl (is_pattern_tag tag) refl (eqb room.patterns 0) refl e where
@@ -106,7 +106,7 @@ leaf7 = record { spelled = at-PillarPcre tree_layer; rights = at-PillarPcre righ
 module _ (l : Lower) where
   -- ---- what is written is read again
 
-  leaf_text_written : (stop : ℕ) (x rest : List ℕ) → is_leaf_text x ≡ true → stop ≤ length rest → leaf_text stop (text x ++ rest) ≡ Ok (x, rest)
+  pub leaf_text_written : (stop : ℕ) (x rest : List ℕ) → is_leaf_text x ≡ true → stop ≤ length rest → leaf_text stop (text x ++ rest) ≡ Ok (x, rest)
   unfolding leaf_text
   leaf_text_written stop x rest h le =
       let a = both_true (is_text x) (leb 1 (length x) && leb (length x) 4096) h in
@@ -121,7 +121,7 @@ module _ (l : Lower) where
       ap (several (id_or f) (suc (length xs))) (append_assoc (id x) (joined (map id xs)) rest)
       ∙ rw ((ids_or l f).written x (joined (map id xs) ++ rest) (is_id-IsId x a.0), several_written f xs rest a.1) refl
 
-  leaf_ids_written : (stop : ℕ) (xs : List (List ℕ)) (rest : List ℕ) → (leb 1 (length xs) && (leb (length xs) 65535 && list_all is_id xs)) ≡ true → stop ≤ length rest
+  pub leaf_ids_written : (stop : ℕ) (xs : List (List ℕ)) (rest : List ℕ) → (leb 1 (length xs) && (leb (length xs) 65535 && list_all is_id xs)) ≡ true → stop ≤ length rest
       → leaf_ids stop ((to_be_bytes w16 (length xs) ++ joined (map id xs)) ++ rest) ≡ Ok (xs, rest)
   unfolding leaf_ids
   leaf_ids_written stop xs rest h le =
@@ -131,7 +131,7 @@ module _ (l : Lower) where
       let f = bad ((to_be_bytes w16 (length xs) ++ joined (map id xs)) ++ rest) in
       rw (l.numbers_written w16 f (length xs) (joined (map id xs) ++ rest) (omega arith) (omega (arith, small)), several_written f xs rest b.1, a.0, le-leb stop (length rest) le) refl
 
-  tag_written : (room : Room) (tag : ℕ) (more : List ℕ) → tag < 256 → 1 ≤ room.nodes → cost tag ≤ room.patterns → room.stop ≤ length more
+  pub tag_written : (room : Room) (tag : ℕ) (more : List ℕ) → tag < 256 → 1 ≤ room.nodes → cost tag ≤ room.patterns → room.stop ≤ length more
       → tag_field room (tag ∷ more) ≡ Ok (tag, made (room.nodes - 1) (room.patterns - cost tag) room.stop, more)
   unfolding tag_field
   tag_written room tag more lt some enough le =
@@ -266,25 +266,26 @@ module _ (l : Lower) where
 
   -- ---- what is read was written so
 
-  record TreeTook (room : Room) (b : List ℕ) (y : Target × Room × List ℕ) : Type 0 where
+  pub record TreeTook (room : Room) (b : List ℕ) (y : Target × Room × List ℕ) : Type 0 where
     rights : right y.0 ≡ true
     parts : b ≡ tree y.0 ++ y.2
-    are_bytes : IsBytes y.2
-    node_count : y.1.nodes + nodes y.0 ≡ room.nodes
+    pub are_bytes : IsBytes y.2
+    pub node_count : y.1.nodes + nodes y.0 ≡ room.nodes
     pattern_count : y.1.patterns + patterns y.0 ≡ room.patterns
     stop : y.1.stop ≡ room.stop
     inside : room.stop ≤ length y.2
 
-  record TagTook (room : Room) (b : List ℕ) (y : ℕ × Room × List ℕ) : Type 0 where
-    parts : b ≡ y.0 ∷ y.2
-    are_bytes : IsBytes y.2
-    room_left : Entered room y.1 y.0
+  pub record TagTook (room : Room) (b : List ℕ) (y : ℕ × Room × List ℕ) : Type 0 where
+    pub parts : b ≡ y.0 ∷ y.2
+    pub are_bytes : IsBytes y.2
+    pub room_left : Entered room y.1 y.0
+    pub inside : room.stop ≤ length y.2
 
   with_room_ok : (f : Misread) (tag : ℕ × List ℕ) (o : Option Room) (y : ℕ × Room × List ℕ) → with_room f tag o ≡ Ok y → (r : Room) × (o ≡ Some r) × ((tag.0, r, tag.1) ≡ y)
   with_room_ok f tag None y e = absurd cc
   with_room_ok f tag (Some r) y e = (r, refl, cc)
 
-  tag_took : (room : Room) (b : List ℕ) (y : ℕ × Room × List ℕ) → IsBytes b → tag_field room b ≡ Ok y → TagTook room b y
+  pub tag_took : (room : Room) (b : List ℕ) (y : ℕ × Room × List ℕ) → IsBytes b → tag_field room b ≡ Ok y → TagTook room b y
   unfolding tag_field
   tag_took room b y h e =
       let a = bind_ok (byte_field b) (λ tag. when (leb room.stop (length tag.1)) (bad b) tag >>= λ ended. with_room (bad b) ended (room_after room ended.0)) y e in
@@ -293,15 +294,16 @@ module _ (l : Lower) where
       let r = with_room_ok (bad b) w.0 (room_after room w.0.0) y w.2 in
       let t = (a_byte l).took b a.0 h a.1 in
       let same : Took one_byte IsByte b w.0 = subst (λ (x : ℕ × List ℕ). Took one_byte IsByte b x) g.1 t in
-      subst (λ (x : ℕ × Room × List ℕ). TagTook room b x) r.2 (record { parts = same.1; are_bytes = same.2; room_left = entered room w.0.0 r.0 r.1 })
+      let inside : room.stop ≤ length w.0.1 = subst (λ (x : ℕ × List ℕ). room.stop ≤ length x.1) g.1 (leb-true _ _ g.0) in
+      subst (λ (x : ℕ × Room × List ℕ). TagTook room b x) r.2 (record { parts = same.1; are_bytes = same.2; room_left = entered room w.0.0 r.0 r.1; inside = inside })
 
-  record TextTook (stop : ℕ) (b : List ℕ) (x : List ℕ × List ℕ) : Type 0 where
-    rights : is_leaf_text x.0 ≡ true
-    parts : b ≡ text x.0 ++ x.1
-    are_bytes : IsBytes x.1
-    inside : stop ≤ length x.1
+  pub record TextTook (stop : ℕ) (b : List ℕ) (x : List ℕ × List ℕ) : Type 0 where
+    pub rights : is_leaf_text x.0 ≡ true
+    pub parts : b ≡ text x.0 ++ x.1
+    pub are_bytes : IsBytes x.1
+    pub inside : stop ≤ length x.1
 
-  leaf_text_took : (stop : ℕ) (b : List ℕ) (x : List ℕ × List ℕ) → IsBytes b → leaf_text stop b ≡ Ok x → TextTook stop b x
+  pub leaf_text_took : (stop : ℕ) (b : List ℕ) (x : List ℕ × List ℕ) → IsBytes b → leaf_text stop b ≡ Ok x → TextTook stop b x
   unfolding leaf_text
   leaf_text_took stop b x h e =
       let a = bind_ok (text_field b) (λ text. when (leb 1 (length text.0) && (leb (length text.0) 4096 && leb stop (length text.1))) (bad b) text) x e in
@@ -335,13 +337,13 @@ module _ (l : Lower) where
         are_bytes = others.are_bytes;
       })
 
-  record IdsTook (stop : ℕ) (b : List ℕ) (x : List (List ℕ) × List ℕ) : Type 0 where
-    rights : (leb 1 (length x.0) && (leb (length x.0) 65535 && list_all is_id x.0)) ≡ true
-    parts : b ≡ (to_be_bytes w16 (length x.0) ++ joined (map id x.0)) ++ x.1
-    are_bytes : IsBytes x.1
-    inside : stop ≤ length x.1
+  pub record IdsTook (stop : ℕ) (b : List ℕ) (x : List (List ℕ) × List ℕ) : Type 0 where
+    pub rights : (leb 1 (length x.0) && (leb (length x.0) 65535 && list_all is_id x.0)) ≡ true
+    pub parts : b ≡ (to_be_bytes w16 (length x.0) ++ joined (map id x.0)) ++ x.1
+    pub are_bytes : IsBytes x.1
+    pub inside : stop ≤ length x.1
 
-  leaf_ids_took : (stop : ℕ) (b : List ℕ) (x : List (List ℕ) × List ℕ) → IsBytes b → leaf_ids stop b ≡ Ok x → IdsTook stop b x
+  pub leaf_ids_took : (stop : ℕ) (b : List ℕ) (x : List (List ℕ) × List ℕ) → IsBytes b → leaf_ids stop b ≡ Ok x → IdsTook stop b x
   unfolding leaf_ids
   leaf_ids_took stop b x h e =
       let a = bind_ok (number_or w16 (bad b) b) (λ count. several (id_or (bad b)) count.0 count.1 >>= λ ids. when (leb 1 count.0 && leb stop (length ids.1)) (bad b) ids) x e in
@@ -360,7 +362,7 @@ module _ (l : Lower) where
       })
 
   -- what a reading of trees promises of each tree that it gives
-  abbrev Reads : ((room : Room) → List ℕ → Result (Target × Room × List ℕ) Misread) → Type 0
+  abbrev pub Reads : ((room : Room) → List ℕ → Result (Target × Room × List ℕ) Misread) → Type 0
   Reads part = (room : Room) (b : List ℕ) (y : Target × Room × List ℕ) → IsBytes b → part room b ≡ Ok y → TreeTook room b y
 
   -- a node after its tag, in a room that the tag left
@@ -518,7 +520,7 @@ module _ (l : Lower) where
       of : (n : ℕ) → tag ≡ n → NodeTook n room next b y → NodeTook tag room next b y
       of n g p = subst (λ k. NodeTook k room next b y) (sym g) p
 
-  tree_took : (d : ℕ) → Reads (tree_at d)
+  pub tree_took : (d : ℕ) → Reads (tree_at d)
   unfolding tree_at
   tree_took zero = λ room b y h e. absurd cc
   tree_took (suc d) = λ room b y h e.

@@ -2,3 +2,4 @@ pub mod Spelling
 pub mod Limits
 pub mod Decoding
 pub mod RoundTrip
+pub mod FirstFault

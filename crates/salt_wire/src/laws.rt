@@ -1,9 +1,13 @@
 // Laws of the bytes, as the clauses of functions that do nothing.
+ghost use Rattle.std.specs.Prelude.{◌≡◌, List, ℕ, Err};
 ghost use Rattle.salt_wire.specs.Spelling as spelling;
 ghost use Rattle.salt_wire.specs.Limits.{JobFits, EntryFits, Within};
 ghost use Rattle.salt_value.specs.Id.{IsId};
 ghost use Rattle.salt_value.specs.Word.{IsWord};
-ghost use Rattle.salt_wire.specs.Decoding.{id_field, word_field, job_field, entry_field, kind_and_fields};
+ghost use Rattle.salt_value.specs.Decoding.{IsBytes};
+ghost use Rattle.salt_wire.specs.Decoding.{id_field, word_field, job_field, entry_field, kind_and_fields, decoded};
+ghost use Rattle.salt_wire.specs.FirstFault.{FirstFault};
+ghost use Rattle.salt_wire.specs.declared.fault.WireFault.{WireFault};
 ghost use Rattle.salt_wire.specs.RoundTrip.{IsReadBack};
 
 use crate::fault::Misread;
@@ -17,6 +21,16 @@ pub fn messages_read_back()
     ensures entries { IsReadBack spelling.entry EntryFits entry_field }
     ensures jobs { IsReadBack spelling.job JobFits job_field }
     ensures messages { IsReadBack spelling.kind_and_fields Within kind_and_fields }
+{
+    numbers_read_back::<Misread>();
+    texts_read_back::<Misread>();
+    values_read_back();
+}
+
+/// A law: the fault that decoding meets is the first one of the body, and the first one is met.
+pub fn first_fault_is_met()
+    ensures fault { (body : List ℕ) (e : WireFault) → IsBytes body → decoded body ≡ Err e → FirstFault body e }
+    ensures first { (body : List ℕ) (e : WireFault) → IsBytes body → FirstFault body e → decoded body ≡ Err e }
 {
     numbers_read_back::<Misread>();
     texts_read_back::<Misread>();

@@ -1,18 +1,21 @@
 // The public calls.
-ghost use Rattle.std.specs.Prelude.{◌≡◌, ◌≤◌, ◌+◌, ◌++◌, List, ℕ, length, drop, Ok, IfOk, IfErr, OnOk, OnErr};
+ghost use Rattle.std.specs.Prelude.{◌≡◌, ◌≢◌, ◌≤◌, ◌+◌, ◌++◌, List, ℕ, length, drop, Ok, Err, IfOk, IfErr, OnOk, OnErr};
 ghost use Rattle.salt_value.specs.Id.{IsId};
 ghost use Rattle.salt_value.specs.Word.{IsWord};
 ghost use Rattle.salt_wire.specs.Spelling as spelling;
 ghost use Rattle.salt_wire.specs.Limits.{JobFits, EntryFits, Within};
 ghost use Rattle.salt_wire.specs.Decoding.{Answers, IsFieldFault, field_at, decoded, id_field, word_field, job_field, entry_field};
+ghost use Rattle.salt_wire.specs.FirstFault.{FirstFault};
 ghost use Rattle.salt_wire.specs.RoundTrip.{Spans};
+ghost use Rattle.salt_wire.specs.declared.fault.WireFault.{WireFault};
+ghost use Rattle.salt_wire.specs.declared.fault.WireFault.TheVariants as faults;
 ghost use Rattle.salt_wire.specs.declared.message.Job.{Job};
 ghost use Rattle.salt_wire.specs.declared.message.Entry.{Entry};
 ghost use Rattle.salt_wire.specs.declared.message.Message.{Message};
 
 use crate::fault::WireFault;
 use crate::fields::word_at;
-use crate::laws::messages_read_back;
+use crate::laws::{first_fault_is_met, messages_read_back};
 use crate::message::{Entry, Job, Message};
 use crate::parts::{entry_at, job_at};
 use crate::whole::{id_from, placed_after, whole};
@@ -26,10 +29,15 @@ pub fn decode(alloc: Global, body: &[u8]) -> Result<Message, WireFault>
     ensures found { IfOk result (λ message. Within message × (body.now ≡ spelling.body message)) }
     // A message within its limits that has this body is decoded, unless memory runs out.
     ensures only { (message : Message) → Within message → body.now ≡ spelling.body message → Answers result (Ok message) }
+    // Any fault but want of memory is the first of the body.
+    ensures fault { IfErr result (λ e. e ≢ faults.NoMemory → FirstFault body.now e) }
+    // The first fault of the body is answered, unless memory runs out.
+    ensures first { (e : WireFault) → FirstFault body.now e → Answers result (Err e) }
     // All of this, with the faults and their places, as a function.
     ensures exact { Answers result (decoded body.now) }
 {
     messages_read_back();
+    first_fault_is_met();
     whole(alloc, body)
 }
 
