@@ -16,7 +16,7 @@ use Rattle.salt_wire.specs.Spelling.{number, id, word, tree, entry, body}
 use Rattle.salt_wire.specs.Limits.{is_id, is_leaf_text, IsNumber, IsText, TreeFits, EntryFits, is_status, Within}
 use Rattle.salt_wire.specs.Decoding.{is_text_tag, is_pattern_tag}
 
--- a field of a message or an entry
+-- the fields of messages and entries
 pub data Field : Type 0 where
   Number : Field
   Byte : Field
@@ -65,11 +65,15 @@ entry_fields tag =
 abbrev pub Spelled : {A : Type 0} → (A → List ℕ) → (A → Type 0) → List ℕ → Type 0
 Spelled {A} spell Fits b = (x : A) × Fits x × (b ≡ spell x)
 
+-- one byte
+abbrev pub byte : ℕ → List ℕ
+byte n = n ∷ []
+
 -- these bytes are right for a field
 abbrev pub IsRight : Field → List ℕ → Type 0
 IsRight Number = Spelled number IsNumber
-IsRight Byte = Spelled (λ n. n ∷ []) (λ n. n < 256)
-IsRight Status = Spelled (λ n. n ∷ []) (λ n. is_status n ≡ true)
+IsRight Byte = Spelled byte (λ n. n < 256)
+IsRight Status = Spelled byte (λ n. is_status n ≡ true)
 IsRight Jid = Spelled (λ n. to_be_bytes w64 n) (λ n. n ≤ greatest_jid)
 IsRight Id = Spelled id IsId
 IsRight Word = Spelled word IsWord
@@ -92,17 +96,17 @@ Wrong = List ℕ → List ℕ → Type 0
 abbrev pub NoneStands : (List ℕ → Type 0) → Wrong
 NoneStands Right b at = (at ≡ b) × ((front rest : List ℕ) → Right front → b ≡ front ++ rest → ⊥)
 
--- the first of these fields stand there, and then one is wrong
+-- the first of these fields stand there, maybe none, and then one is wrong
 abbrev pub FirstWrong : (Field → Wrong) → List Field → Wrong
 FirstWrong wrong [] b at = ⊥
 FirstWrong wrong (f ∷ fs) b at = wrong f b at ⊎ ((front : List ℕ) × (rest : List ℕ) × IsRight f front × (b ≡ front ++ rest) × FirstWrong wrong fs rest at)
 
--- an entry: the tag, or one of the fields after it
+-- an entry: no tag of an entry stands there, or one does and a field after it is wrong
 abbrev pub EntryWrong : Wrong
-EntryWrong b at = NoneStands (λ front. (tag : ℕ) × (is_tag tag ≡ true) × (front ≡ tag ∷ [])) b at
+EntryWrong b at = NoneStands (Spelled byte (λ tag. is_tag tag ≡ true)) b at
     ⊎ ((tag : ℕ) × (rest : List ℕ) × (b ≡ tag ∷ rest) × FirstWrong (λ f. NoneStands (IsRight f)) (entry_fields tag) rest at)
 
--- ---- trees, as their nodes from the root, left before right
+-- ---- trees: their nodes in order from the root, left before right
 
 -- what stands after the tag of a node
 pub data After : Type 0 where
@@ -111,16 +115,18 @@ pub data After : Type 0 where
   Subtrees : (n : ℕ) → After
   NoNode : After
 
--- the tags of nodes
+-- the tags of nodes, by what stands after them
 abbrev pub after : ℕ → After
 after tag =
     if tag == 3 then LeafIds else if tag == 8 then Subtrees 1 else if tag == 9 then Subtrees 2 else if tag == 10 then Subtrees 2
     else if is_text_tag tag then LeafText else NoNode
 
+-- a node has this tag
 abbrev pub is_node : After → Bool
 is_node NoNode = false
 is_node other = true
 
+-- how many subtrees stand after a tag
 abbrev pub subtrees : After → ℕ
 subtrees (Subtrees n) = n
 subtrees other = 0
@@ -148,7 +154,7 @@ nodes_bytes nodes = joined (map (λ (n : Node). n.0 ∷ n.1) nodes)
 abbrev pub pattern_leaves : List Node → ℕ
 pattern_leaves nodes = count_by (λ (n : Node). is_pattern_tag n.0) nodes
 
--- right nodes of so many trees, one tree after the other, with which the last of these trees doesn't end
+-- right nodes of so many trees, from the left: before each of them and after the last a node is still to come
 abbrev pub Unended : ℕ → List Node → Type 0
 Unended trees [] = 0 < trees
 Unended trees (n ∷ ns) = (0 < trees) × IsAfter (after n.0) n.1 × Unended (trees - 1 + subtrees (after n.0)) ns
@@ -165,12 +171,12 @@ module _ (most_nodes most_patterns most_bytes : ℕ) where
   abbrev pub MayHave : List Node → ℕ → Type 0
   MayHave done tag = (is_node (after tag) ≡ true) × InLimits (done ++ (tag, []) ∷ [])
 
-  -- the node after some nodes is wrong: its tag, or what stands after its tag
+  -- the node after some nodes is wrong: no tag that it may have stands there, or one does and what stands after it is wrong
   abbrev pub NodeWrong : List Node → Wrong
-  NodeWrong done b at = NoneStands (λ front. (tag : ℕ) × MayHave done tag × (front ≡ tag ∷ [])) b at
+  NodeWrong done b at = NoneStands (Spelled byte (MayHave done)) b at
       ⊎ ((tag : ℕ) × (rest : List ℕ) × (b ≡ tag ∷ rest) × MayHave done tag × NoneStands (λ front. IsAfter (after tag) front × InLimits (done ++ (tag, front) ∷ [])) rest at)
 
-  -- of so many trees right nodes within the limits stand there, and then a wrong one
+  -- right nodes of so many trees stand there, within the limits, and then a wrong one
   abbrev pub NodesWrong : ℕ → Wrong
   NodesWrong trees b at = (done : List Node) × (rest : List ℕ) × (b ≡ nodes_bytes done ++ rest) × Unended trees done × InLimits done × NodeWrong done rest at
 
@@ -178,7 +184,7 @@ module _ (most_nodes most_patterns most_bytes : ℕ) where
 abbrev pub TreeWrong : Wrong
 TreeWrong = NodesWrong 256 16 65536 1
 
--- a field of a message
+-- a field of a message: only entries and trees are not told at their first byte
 abbrev pub FieldWrong : Field → Wrong
 FieldWrong Tree = TreeWrong
 FieldWrong Entry = EntryWrong
@@ -186,7 +192,7 @@ FieldWrong f = NoneStands (IsRight f)
 
 -- ---- messages
 
--- the first fault of a body
+-- the first fault of a body: another version, no known kind, a wrong field of the kind, or bytes after a whole message
 abbrev pub FirstFault : List ℕ → WireFault → Type 0
 FirstFault b faults.NoMemory = ⊥
 FirstFault b faults.BadVersion = (rest : List ℕ) → b ≡ 1 ∷ rest → ⊥

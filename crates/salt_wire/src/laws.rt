@@ -27,7 +27,7 @@ pub fn messages_read_back()
     values_read_back();
 }
 
-/// A law: the fault that decoding meets is the first one of the body, and the first one is met.
+// The fault that decoding meets is the first one of the body, and the first one is met.
 pub fn first_fault_is_met()
     ensures fault { (body : List ℕ) (e : WireFault) → IsBytes body → decoded body ≡ Err e → FirstFault body e }
     ensures first { (body : List ℕ) (e : WireFault) → IsBytes body → FirstFault body e → decoded body ≡ Err e }
