@@ -2,6 +2,7 @@
 use Rattle.std.specs.Prelude.{◌⊎◌, ◌+◌, ℕ, true, List, [], ◌∷◌, ◌++◌, Result, Ok, Err}
 use Rattle.gate_journal.specs.declared.fault.AppendFault.{AppendFault}
 use Rattle.gate_journal.specs.declared.fault.AppendFault.TheVariants.{NoMemory, Down, Full, Disk}
+use Rattle.gate_journal.specs.Layout.{record_overhead}
 use Rattle.gate_journal.specs.Journal.{JournalState, IsJournal}
 
 -- the payloads that the journal has then: the new one at the end, where it answered Ok
@@ -11,7 +12,7 @@ appended (Err fault) payloads payload = payloads
 
 -- the journal after an append of a payload of so many bytes: it is down from an answer `Disk` on, and changed by no other refusal
 abbrev pub after_append : {T : Type 0} → JournalState → ℕ → Result T AppendFault → JournalState
-after_append journal count (Ok done) = record { part = journal.part; limit = journal.limit; length = journal.length + 5 + count; is_down = journal.is_down }
+after_append journal count (Ok done) = record { part = journal.part; limit = journal.limit; length = journal.length + record_overhead + count; is_down = journal.is_down }
 after_append journal count (Err NoMemory) = journal
 after_append journal count (Err Down) = journal
 after_append journal count (Err (Full length limit)) = journal

@@ -6,6 +6,7 @@ use Rattle.salt_disk.specs.Disk.{PartState, DiskState, part_of, IsSettled}
 use Rattle.salt_disk.specs.declared.disk.Fuse.{Fuse}
 use Rattle.salt_disk.specs.Crash.{Image, MayLeave, IsWithin, OthersMayLeave}
 use Rattle.salt_disk.specs.Fuse.{Passes}
+use Rattle.gate_journal.specs.Layout.{least_limit, greatest_limit, fresh_length, record_overhead}
 
 -- an open gate, the payload's length and the payload
 abbrev pub record_of : List ℕ → List ℕ
@@ -22,7 +23,7 @@ header limit = codes "SALTJNL1" ++ big_bytes 8 limit
 
 -- the length of a journal: its header, its records and the closed gate
 abbrev pub journal_length : List (List ℕ) → ℕ
-journal_length payloads = 17 + length (records payloads)
+journal_length payloads = fresh_length + length (records payloads)
 
 -- These bytes are a journal of these payloads. What stands behind the closed gate means nothing.
 pub record IsJournal (limit : ℕ) (payloads : List (List ℕ)) (bytes : List ℕ) : Type 0 where
@@ -31,8 +32,8 @@ pub record IsJournal (limit : ℕ) (payloads : List (List ℕ)) (bytes : List �
   pub shut : gate ≢ 1
   pub bytes_are : bytes ≡ (header limit ++ records payloads) ++ gate ∷ rest
   pub within : journal_length payloads ≤ limit
-  pub least : 64 ≤ limit
-  pub greatest : limit ≤ 1073741824
+  pub least : least_limit ≤ limit
+  pub greatest : limit ≤ greatest_limit
 
 -- A loaded journal of this limit and length stands on this part: nothing is pending.
 pub record Rests (limit len : ℕ) (payloads : List (List ℕ)) (part : PartState) : Type 0 where
@@ -48,7 +49,7 @@ tail_of payload = (big_bytes 4 (length payload) ++ payload) ++ 0 ∷ []
 pub record IsNext (limit len : ℕ) (payloads : List (List ℕ)) (payload body : List ℕ) (part : PartState) : Type 0 where
   pub rests : Rests limit len payloads part
   pub body_is : body ≡ tail_of payload
-  pub room : len + 5 + length payload ≤ limit
+  pub room : len + record_overhead + length payload ≤ limit
 
 -- A journal as its calls see it: where it stands, its limit and its length in bytes, and whether it is down.
 pub record JournalState : Type 0 where

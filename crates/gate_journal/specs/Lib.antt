@@ -1,3 +1,4 @@
+pub mod Layout
 pub mod Journal
 pub mod Payloads
 pub mod Append

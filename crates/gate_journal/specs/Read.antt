@@ -3,6 +3,7 @@ use Rattle.std.specs.Prelude.{◌≡◌, ◌≢◌, ◌⊎◌, ◌<◌, ◌≤�
 use Rattle.std.specs.Int.{w32, w64, from_be_bytes}
 use Rattle.gate_journal.specs.declared.fault.LoadFault.{LoadFault}
 use Rattle.gate_journal.specs.declared.fault.LoadFault.TheVariants.{NoMemory, Disk, NotAJournal, Damaged}
+use Rattle.gate_journal.specs.Layout.{least_limit, greatest_limit, first_gate, fresh_length, record_overhead}
 use Rattle.gate_journal.specs.Journal.{records, header}
 
 -- the number at place 8
@@ -11,14 +12,14 @@ limit_in bytes = from_be_bytes w64 (take 8 (drop 8 bytes))
 
 -- too short for a header and a gate, another name, or a limit out of range
 abbrev pub IsNoJournal : List ℕ → Type 0
-IsNoJournal bytes = (length bytes < 17) ⊎ (take 8 bytes ≢ codes "SALTJNL1") ⊎ (limit_in bytes < 64) ⊎ (1073741824 < limit_in bytes)
+IsNoJournal bytes = (length bytes < fresh_length) ⊎ (take 8 bytes ≢ codes "SALTJNL1") ⊎ (limit_in bytes < least_limit) ⊎ (greatest_limit < limit_in bytes)
 
 -- What stands behind an open gate is no whole record with a gate after it, or it goes past the limit.
--- There is room for so many bytes from the gate on.
+-- A whole record and the gate after it have `record_overhead + 1` bytes beside the payload, one fewer without the open gate. There is room for so many bytes from the gate on.
 abbrev pub IsBroken : ℕ → List ℕ → Type 0
 IsBroken room rest = (length rest < 4)
-    ⊎ (length rest < 5 + from_be_bytes w32 (take 4 rest))
-    ⊎ (room < 6 + from_be_bytes w32 (take 4 rest))
+    ⊎ (length rest < record_overhead + from_be_bytes w32 (take 4 rest))
+    ⊎ (room < record_overhead + 1 + from_be_bytes w32 (take 4 rest))
 
 -- the first open gate whose record is broken stands at this place
 pub record IsDamagedAt (at : ℕ) (bytes : List ℕ) : Type 0 where
@@ -26,9 +27,9 @@ pub record IsDamagedAt (at : ℕ) (bytes : List ℕ) : Type 0 where
   pub payloads : List (List ℕ)
   pub rest : List ℕ
   pub bytes_are : bytes ≡ (header limit ++ records payloads) ++ 1 ∷ rest
-  pub place : at ≡ 16 + length (records payloads)
-  pub least : 64 ≤ limit
-  pub greatest : limit ≤ 1073741824
+  pub place : at ≡ first_gate + length (records payloads)
+  pub least : least_limit ≤ limit
+  pub greatest : limit ≤ greatest_limit
   pub within : at < limit
   pub broken : IsBroken (limit - at) rest
 

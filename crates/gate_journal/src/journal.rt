@@ -4,6 +4,7 @@ ghost use Rattle.salt_disk.specs.Disk.{part_of, IsSettled, Stays};
 ghost use Rattle.salt_disk.specs.Crash.{MayLeave, LeavesOnly, OthersStay};
 ghost use Rattle.salt_disk.specs.Causes.{Rose};
 ghost use Rattle.salt_disk.specs.Fuse.{Passes, burnt};
+ghost use Rattle.gate_journal.specs.Layout.{least_limit, greatest_limit, first_gate, fresh_length, record_overhead};
 ghost use Rattle.gate_journal.specs.Journal.{IsJournal, Rests, Holds, HoldsOldOrNew, StoppedAppend};
 ghost use Rattle.gate_journal.specs.Append.{appended, after_append, LeftAfter};
 ghost use Rattle.gate_journal.specs.Read.{IsNoJournal, IsDamagedAt, IsAccepted, IsRefused};
@@ -11,7 +12,7 @@ ghost use Rattle.gate_journal.specs.Fresh.{HoldsNothing};
 
 use crate::read::{ReadFault, read_journal, read_synced};
 use crate::write::{body_of, store, write_header};
-use crate::{AppendFault, CreateFault, LoadFault, Payloads};
+use crate::{AppendFault, CreateFault, FRESH_LENGTH, LoadFault, Payloads, RECORD_OVERHEAD};
 use salt_disk::{Disk, DiskFault, Part};
 use std::alloc::Global;
 use std::marker::Model;
@@ -27,13 +28,14 @@ pub struct Journal {
 
 impl Model for Journal {
     ghost use Rattle.std.specs.Prelude.{◌≤◌};
+    ghost use Rattle.gate_journal.specs.Layout.{greatest_limit, fresh_length};
     ghost use Rattle.gate_journal.specs.Journal.{JournalState};
 
     ghost Value = { JournalState };
 
     ghost view = { λ j. record { part = j.part; limit = j.limit; length = j.length; is_down = j.down } };
 
-    ghost invariant = { λ j. (j.limit ≤ 1073741824) × (j.length ≤ j.limit) × (17 ≤ j.length) };
+    ghost invariant = { λ j. (j.limit ≤ greatest_limit) × (j.length ≤ j.limit) × (fresh_length ≤ j.length) };
 }
 
 impl Journal {
@@ -46,7 +48,7 @@ impl Journal {
     ) -> Result<(Journal, Payloads), LoadFault>
         ensures loaded { D.is_told → IfOk result (λ r. Holds r.0 r.1.items (D.state disk.new)) }
         ensures journal { IfOk result (λ r. (r.0.part ≡ part) × (r.0.is_down ≡ false)) }
-        ensures places { IfOk result (λ r. r.1.first ≡ 16) }
+        ensures places { IfOk result (λ r. r.1.first ≡ first_gate) }
 
         // The bytes stay. After every answer but `Disk` nothing is pending on the part.
         ensures bytes { D.is_told → (part_of (D.state disk.new) part).bytes ≡ (part_of (D.state disk.old) part).bytes }
@@ -89,29 +91,30 @@ impl Journal {
         }
     }
 
-    /// Makes an empty journal of this limit, from 64 to 1,073,741,824 bytes, on a part that has at most 17
-    /// bytes: it writes the header with 0 in place of its first byte and a closed gate, syncs, writes that
-    /// byte, syncs. A part of at most 17 bytes holds no payload, so a create that was stopped can be made again.
+    /// Makes an empty journal of this limit, from `LEAST_LIMIT` to `GREATEST_LIMIT` (64 to 1,073,741,824 bytes), on a
+    /// part that has at most `FRESH_LENGTH` bytes (17): it writes the header with 0 in place of its first byte and a
+    /// closed gate, syncs, writes that byte, syncs. A part of at most that length holds no payload, so a create that
+    /// was stopped can be made again.
     pub fn create<D: Disk>(disk: &mut D, part: Part, limit: u64) -> Result<(), CreateFault>
-        requires least { 64 ≤ limit }
-        requires greatest { limit ≤ 1073741824 }
+        requires least { least_limit ≤ limit }
+        requires greatest { limit ≤ greatest_limit }
         requires settled { D.is_told → IsSettled (part_of (D.state disk.old) part) }
-        ensures made { D.is_told → OnOk result (Rests limit 17 [] (part_of (D.state disk.new) part)) }
+        ensures made { D.is_told → OnOk result (Rests limit fresh_length [] (part_of (D.state disk.new) part)) }
         ensures others { D.is_told → OthersStay part (D.state disk.old) (D.state disk.new) }
 
         // A crash at any moment leaves no journal that loads, or an empty one, or where the part is not empty what it could leave before.
-        ensures any_moment { D.is_told → length (part_of (D.state disk.old) part).bytes ≤ 17 → LeavesOnly D.past D.state disk.old disk.new (HoldsNothing part (D.state disk.old)) }
-        ensures full_moment { D.is_told → 17 < length (part_of (D.state disk.old) part).bytes → LeavesOnly D.past D.state disk.old disk.new (MayLeave (D.state disk.old)) }
+        ensures any_moment { D.is_told → length (part_of (D.state disk.old) part).bytes ≤ fresh_length → LeavesOnly D.past D.state disk.old disk.new (HoldsNothing part (D.state disk.old)) }
+        ensures full_moment { D.is_told → fresh_length < length (part_of (D.state disk.old) part).bytes → LeavesOnly D.past D.state disk.old disk.new (MayLeave (D.state disk.old)) }
 
         // It makes four changing calls.
         ensures passed { D.is_told → OnOk result (Passes 4 (D.fuse disk.old) × (D.fuse disk.new ≡ burnt 4 (D.fuse disk.old))) }
         ensures not_passed { D.is_told → IsErrOf result CreateFault.Disk → Passes 4 (D.fuse disk.old) → ⊥ }
 
         // The causes.
-        ensures not_empty { D.is_told → (n : ℕ) → IsErrOf result (CreateFault.NotEmpty n) → (17 < n) × (n ≡ length (part_of (D.state disk.old) part).bytes) }
-        ensures full { D.is_told → 17 < length (part_of (D.state disk.old) part).bytes
+        ensures not_empty { D.is_told → (n : ℕ) → IsErrOf result (CreateFault.NotEmpty n) → (fresh_length < n) × (n ≡ length (part_of (D.state disk.old) part).bytes) }
+        ensures full { D.is_told → fresh_length < length (part_of (D.state disk.old) part).bytes
             → IsErrOf result (CreateFault.NotEmpty (length (part_of (D.state disk.old) part).bytes)) ⊎ IsErrOf result CreateFault.Disk }
-        ensures untouched { D.is_told → 17 < length (part_of (D.state disk.old) part).bytes → Stays (D.state disk.old) (D.state disk.new) (D.past disk.old) (D.past disk.new) }
+        ensures untouched { D.is_told → fresh_length < length (part_of (D.state disk.old) part).bytes → Stays (D.state disk.old) (D.state disk.new) (D.past disk.old) (D.past disk.new) }
         ensures disk { IsErrOf result CreateFault.Disk → Rose (D.faults disk.old) (D.faults disk.new) }
         ensures counted { (IsErrOf result CreateFault.Disk → ⊥) → D.faults disk.new ≡ D.faults disk.old }
         ensures later { D.faults disk.old ≤ D.faults disk.new }
@@ -120,7 +123,7 @@ impl Journal {
             Ok(len) => len,
             Err(_) => return Err(CreateFault::Disk),
         };
-        if len > 17 {
+        if len > FRESH_LENGTH {
             return Err(CreateFault::NotEmpty { length: len });
         }
         match write_header(disk, part, limit) {
@@ -170,9 +173,9 @@ impl Journal {
         ensures down { IsErrOf result AppendFault.Down → (self.old.is_down ≡ true) × (disk.new ≡ disk.old) }
         ensures is_down { self.old.is_down ≡ true → IsErrOf result AppendFault.Down }
         ensures full { (n limit : ℕ) → IsErrOf result (AppendFault.Full n limit)
-            → (n ≡ self.old.length + 5 + length payload.now) × (limit ≡ self.old.limit) × (limit < n) × (disk.new ≡ disk.old) }
-        ensures no_room { self.old.is_down ≡ false → self.old.limit < self.old.length + 5 + length payload.now
-            → IsErrOf result (AppendFault.Full (self.old.length + 5 + length payload.now) self.old.limit) }
+            → (n ≡ self.old.length + record_overhead + length payload.now) × (limit ≡ self.old.limit) × (limit < n) × (disk.new ≡ disk.old) }
+        ensures no_room { self.old.is_down ≡ false → self.old.limit < self.old.length + record_overhead + length payload.now
+            → IsErrOf result (AppendFault.Full (self.old.length + record_overhead + length payload.now) self.old.limit) }
         ensures disk { IsErrOf result AppendFault.Disk → Rose (D.faults disk.old) (D.faults disk.new) }
         ensures counted { (IsErrOf result AppendFault.Disk → ⊥) → D.faults disk.new ≡ D.faults disk.old }
         ensures later { D.faults disk.old ≤ D.faults disk.new }
@@ -180,7 +183,7 @@ impl Journal {
         if self.down {
             return Err(AppendFault::Down);
         }
-        let length = self.length + 5 + payload.len() as u64;
+        let length = self.length + RECORD_OVERHEAD + payload.len() as u64;
         if length > self.limit {
             return Err(AppendFault::Full {
                 length,

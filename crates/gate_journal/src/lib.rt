@@ -3,12 +3,16 @@
 
 mod fault;
 mod journal;
+mod layout;
 mod payload;
 mod read;
 mod write;
 
 pub use fault::{AppendFault, CreateFault, LoadFault};
 pub use journal::Journal;
+pub use layout::{
+    FIRST_GATE, FRESH_LENGTH, GREATEST_LIMIT, HEADER_BYTES, LEAST_LIMIT, RECORD_OVERHEAD,
+};
 pub use payload::{Payload, Payloads};
 
 #[cfg(test)]

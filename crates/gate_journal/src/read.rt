@@ -6,10 +6,13 @@ ghost use Rattle.salt_disk.specs.Crash.{LeavesOnly, MayLeave, OthersStay};
 ghost use Rattle.salt_disk.specs.Causes.{HasCause};
 ghost use Rattle.salt_disk.specs.Fuse.{Burns, Lasts};
 ghost use Rattle.byteorder.specs.Endian.{big_bytes};
+ghost use Rattle.gate_journal.specs.Layout.{least_limit, greatest_limit, first_gate, fresh_length, record_overhead};
 ghost use Rattle.gate_journal.specs.Journal.{IsJournal, records, header, journal_length};
 ghost use Rattle.gate_journal.specs.Read.{IsNoJournal, IsBroken, IsDamagedAt};
 
-use crate::{Payload, Payloads};
+use crate::{
+    FIRST_GATE, GREATEST_LIMIT, HEADER_BYTES, LEAST_LIMIT, Payload, Payloads, RECORD_OVERHEAD,
+};
 use salt_disk::{Disk, DiskFault, Part};
 use std::alloc::{AllocError, Global};
 
@@ -31,9 +34,9 @@ impl From<AllocError> for ReadFault {
 // The limit in the header, where there is one and a gate.
 fn read_header(bytes: &[u8]) -> Option<u64>
     ensures { MatchOption result (IsNoJournal bytes.now) (λ limit.
-        (bytes.now ≡ header limit ++ drop 16 bytes.now) × (17 ≤ length bytes.now) × (64 ≤ limit) × (limit ≤ 1073741824)) }
+        (bytes.now ≡ header limit ++ drop first_gate bytes.now) × (fresh_length ≤ length bytes.now) × (least_limit ≤ limit) × (limit ≤ greatest_limit)) }
 {
-    if bytes.len() < 17 {
+    if bytes.len() <= HEADER_BYTES {
         return None;
     }
     let Some((name, rest)) = bytes.split_first_chunk::<8>() else {
@@ -46,7 +49,7 @@ fn read_header(bytes: &[u8]) -> Option<u64>
         return None;
     }
     let limit = u64::from_be_bytes(*limit);
-    if limit < 64 || limit > 1073741824 {
+    if limit < LEAST_LIMIT || limit > GREATEST_LIMIT {
         return None;
     }
     Some(limit)
@@ -55,11 +58,11 @@ fn read_header(bytes: &[u8]) -> Option<u64>
 // The payload behind an open gate, and what stands from the next gate on.
 fn read_record(rest: &[u8], room: u64) -> Option<(&[u8], &[u8])>
     ensures { MatchOption result (IsBroken room rest.now) (λ r.
-        (rest.now ≡ (big_bytes 4 (length r.0.now) ++ r.0.now) ++ r.1.now) × (1 ≤ length r.1.now) × (6 + length r.0.now ≤ room)) }
+        (rest.now ≡ (big_bytes 4 (length r.0.now) ++ r.0.now) ++ r.1.now) × (1 ≤ length r.1.now) × (record_overhead + 1 + length r.0.now ≤ room)) }
 {
     let (length, rest) = rest.split_first_chunk::<4>()?;
     let length = u32::from_be_bytes(*length) as usize;
-    if rest.len() <= length || room < 6 + length as u64 {
+    if rest.len() <= length || room < RECORD_OVERHEAD + 1 + length as u64 {
         return None;
     }
     Some((&rest[..length], &rest[length..]))
@@ -67,22 +70,22 @@ fn read_record(rest: &[u8], room: u64) -> Option<(&[u8], &[u8])>
 
 // The limit in the header, the payloads behind it, and the length of the journal.
 pub fn read_journal(alloc: Global, bytes: &[u8]) -> Result<(u64, Payloads, u64), ReadFault>
-    ensures ok { IfOk result (λ r. IsJournal r.0 r.1.items bytes.now × (r.2 ≡ journal_length r.1.items) × (r.1.first ≡ 16)) }
+    ensures ok { IfOk result (λ r. IsJournal r.0 r.1.items bytes.now × (r.2 ≡ journal_length r.1.items) × (r.1.first ≡ first_gate)) }
     ensures not_a_journal { IsErrOf result ReadFault.NotAJournal → IsNoJournal bytes.now }
     ensures damaged { (at : ℕ) → IsErrOf result (ReadFault.Damaged at) → IsDamagedAt at bytes.now }
 {
     let Some(limit) = read_header(bytes) else {
         return Err(ReadFault::NotAJournal);
     };
-    let mut payloads = Payloads::new(alloc, 16);
-    let mut at: u64 = 16;
-    let mut rest = &bytes[16..];
+    let mut payloads = Payloads::new(alloc, FIRST_GATE);
+    let mut at = FIRST_GATE;
+    let mut rest = &bytes[HEADER_BYTES..];
     while rest[0] == 1 {
         let Some((payload, after)) = read_record(&rest[1..], limit - at) else {
             return Err(ReadFault::Damaged(at));
         };
         payloads.add(at, Payload::new(Vec::from_slice(alloc, payload)?))?;
-        at += 5 + payload.len() as u64;
+        at += RECORD_OVERHEAD + payload.len() as u64;
         rest = after;
     }
     Ok((limit, payloads, at + 1))

@@ -1,5 +1,6 @@
 // The bytes of a journal, each call once, each refusal with its effect, and what a crash leaves at each call, by tables.
 ghost use Rattle.std.specs.Prelude.{◌≤◌};
+ghost use Rattle.gate_journal.specs.Layout.{least_limit, greatest_limit};
 
 use super::*;
 use salt_disk::{Disk, DiskFault, MemDisk, Part};
@@ -653,8 +654,8 @@ fn strange_parts(rt: HostRuntime) -> Result<(), Fail> {
 
 // Makes a journal on a fresh disk.
 fn made(alloc: Global, part: Part, limit: u64) -> Result<MemDisk, CreateFault>
-    requires least { 64 ≤ limit }
-    requires greatest { limit ≤ 1073741824 }
+    requires least { least_limit ≤ limit }
+    requires greatest { limit ≤ greatest_limit }
 {
     let mut disk = MemDisk::new(alloc);
     Journal::create(&mut disk, part, limit)?;

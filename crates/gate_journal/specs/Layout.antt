@@ -1,0 +1,22 @@
+-- The numbers of the format, in bytes.
+use Rattle.std.specs.Prelude.{ℕ}
+
+-- the least limit of a journal
+abbrev pub least_limit : ℕ
+least_limit = 64
+
+-- the greatest limit of a journal
+abbrev pub greatest_limit : ℕ
+greatest_limit = 1073741824
+
+-- the place of the first gate, right behind the header
+abbrev pub first_gate : ℕ
+first_gate = 16
+
+-- the length of a journal without payloads: its header and a closed gate
+abbrev pub fresh_length : ℕ
+fresh_length = 17
+
+-- what a record has beside its payload: its gate and the payload's length
+abbrev pub record_overhead : ℕ
+record_overhead = 5

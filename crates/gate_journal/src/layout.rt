@@ -1,0 +1,19 @@
+// The numbers of the format.
+
+/// The least limit of a journal, in bytes.
+pub const LEAST_LIMIT: u64 = 64;
+
+/// The greatest limit of a journal, in bytes.
+pub const GREATEST_LIMIT: u64 = 1_073_741_824;
+
+/// The number of bytes of the header: the name of the format and the limit.
+pub const HEADER_BYTES: usize = 16;
+
+/// The place of the first gate in bytes from the beginning of the part: it stands right behind the header.
+pub const FIRST_GATE: u64 = 16;
+
+/// The length in bytes of a journal without payloads: the header and a closed gate.
+pub const FRESH_LENGTH: u64 = 17;
+
+/// The number of bytes that a record has beside its payload: the gate and the payload's length.
+pub const RECORD_OVERHEAD: u64 = 5;
