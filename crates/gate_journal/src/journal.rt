@@ -2,11 +2,11 @@
 ghost use Rattle.std.specs.Prelude.{◌≡◌, ◌⊎◌, ◌<◌, ◌≤◌, ◌+◌, [], ℕ, true, false, length, IfOk, OnOk, IsErrOf};
 ghost use Rattle.salt_disk.specs.Disk.{part_of, IsSettled, Stays};
 ghost use Rattle.salt_disk.specs.Crash.{MayLeave, LeavesOnly, OthersStay};
-ghost use Rattle.salt_disk.specs.Causes.{Rose};
 ghost use Rattle.salt_disk.specs.Fuse.{Passes, burnt};
-ghost use Rattle.gate_journal.specs.Layout.{least_limit, greatest_limit, first_gate, fresh_length, record_overhead};
-ghost use Rattle.gate_journal.specs.Journal.{IsJournal, Rests, Holds, HoldsOldOrNew, StoppedAppend};
-ghost use Rattle.gate_journal.specs.Append.{appended, after_append, LeftAfter};
+ghost use Rattle.gate_journal.specs.Layout.{least_limit, greatest_limit, first_gate, fresh_length};
+ghost use Rattle.gate_journal.specs.Journal.{IsJournal, Rests, Holds, HoldsOldOrNew};
+ghost use Rattle.gate_journal.specs.Append.{appended, after_append, LeftAfter, AppendBurns, DownExactly, FullExactly};
+ghost use Rattle.gate_journal.specs.Faults.{CountsFaults};
 ghost use Rattle.gate_journal.specs.Read.{IsNoJournal, IsDamagedAt, IsAccepted, IsRefused};
 ghost use Rattle.gate_journal.specs.Fresh.{HoldsNothing};
 
@@ -66,9 +66,7 @@ impl Journal {
             → IsAccepted result × IfOk result (λ r. (r.0.limit ≡ limit) × (r.1.items ≡ payloads)) }
         ensures refuses { D.is_told → IsNoJournal (part_of (D.state disk.old) part).bytes → IsRefused LoadFault.NotAJournal result }
         ensures refuses_damaged { D.is_told → (at : ℕ) → IsDamagedAt at (part_of (D.state disk.old) part).bytes → IsRefused (LoadFault.Damaged part at) result }
-        ensures disk { IsErrOf result LoadFault.Disk → Rose (D.faults disk.old) (D.faults disk.new) }
-        ensures counted { (IsErrOf result LoadFault.Disk → ⊥) → D.faults disk.new ≡ D.faults disk.old }
-        ensures later { D.faults disk.old ≤ D.faults disk.new }
+        ensures faults { CountsFaults (IsErrOf result LoadFault.Disk) (D.faults disk.old) (D.faults disk.new) }
     {
         let bytes = match read_synced(alloc, disk, part) {
             Ok(bytes) => bytes,
@@ -115,9 +113,7 @@ impl Journal {
         ensures full { D.is_told → fresh_length < length (part_of (D.state disk.old) part).bytes
             → IsErrOf result (CreateFault.NotEmpty (length (part_of (D.state disk.old) part).bytes)) ⊎ IsErrOf result CreateFault.Disk }
         ensures untouched { D.is_told → fresh_length < length (part_of (D.state disk.old) part).bytes → Stays (D.state disk.old) (D.state disk.new) (D.past disk.old) (D.past disk.new) }
-        ensures disk { IsErrOf result CreateFault.Disk → Rose (D.faults disk.old) (D.faults disk.new) }
-        ensures counted { (IsErrOf result CreateFault.Disk → ⊥) → D.faults disk.new ≡ D.faults disk.old }
-        ensures later { D.faults disk.old ≤ D.faults disk.new }
+        ensures faults { CountsFaults (IsErrOf result CreateFault.Disk) (D.faults disk.old) (D.faults disk.new) }
     {
         let len = match disk.len(part) {
             Ok(len) => len,
@@ -161,24 +157,15 @@ impl Journal {
         ensures down_moment { D.is_told → self.old.is_down ≡ true → LeavesOnly D.past D.state disk.old disk.new (MayLeave (D.state disk.old)) }
 
         // It makes four changing calls. A disk that tells which calls fail tells what an append that failed has left.
-        ensures passed { D.is_told → OnOk result (Passes 4 (D.fuse disk.old) × (D.fuse disk.new ≡ burnt 4 (D.fuse disk.old))) }
-        ensures not_passed { D.is_told → IsErrOf result AppendFault.Disk → Passes 4 (D.fuse disk.old) → ⊥ }
-        ensures stopped { D.is_told → IsErrOf result AppendFault.Disk → (payloads : _) → Holds self.old payloads (D.state disk.old)
-            → StoppedAppend self.old.part self.old.limit self.old.length payloads payload.now (D.fuse disk.old) (D.state disk.new) }
+        ensures fuse { D.is_told → AppendBurns self.old payload.now (D.fuse disk.old) (D.fuse disk.new) (D.state disk.old) (D.state disk.new) result }
 
         // The journal's own state, by the answer.
         ensures journal { self.new ≡ after_append self.old (length payload.now) result }
 
         // The causes, in their order.
-        ensures down { IsErrOf result AppendFault.Down → (self.old.is_down ≡ true) × (disk.new ≡ disk.old) }
-        ensures is_down { self.old.is_down ≡ true → IsErrOf result AppendFault.Down }
-        ensures full { (n limit : ℕ) → IsErrOf result (AppendFault.Full n limit)
-            → (n ≡ self.old.length + record_overhead + length payload.now) × (limit ≡ self.old.limit) × (limit < n) × (disk.new ≡ disk.old) }
-        ensures no_room { self.old.is_down ≡ false → self.old.limit < self.old.length + record_overhead + length payload.now
-            → IsErrOf result (AppendFault.Full (self.old.length + record_overhead + length payload.now) self.old.limit) }
-        ensures disk { IsErrOf result AppendFault.Disk → Rose (D.faults disk.old) (D.faults disk.new) }
-        ensures counted { (IsErrOf result AppendFault.Disk → ⊥) → D.faults disk.new ≡ D.faults disk.old }
-        ensures later { D.faults disk.old ≤ D.faults disk.new }
+        ensures down { DownExactly self.old disk.old disk.new result }
+        ensures full { FullExactly self.old (length payload.now) disk.old disk.new result }
+        ensures faults { CountsFaults (IsErrOf result AppendFault.Disk) (D.faults disk.old) (D.faults disk.new) }
     {
         if self.down {
             return Err(AppendFault::Down);
