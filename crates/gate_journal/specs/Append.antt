@@ -1,5 +1,5 @@
 -- What an append leaves by its answer, and when each answer comes.
-use Rattle.std.specs.Prelude.{◌≡◌, ◌⊎◌, ◌<◌, ◌+◌, ℕ, true, false, List, [], ◌∷◌, ◌++◌, length, Result, Ok, Err, OnOk, IsErrOf}
+use Rattle.std.specs.Prelude.{◌≡◌, ◌⊎◌, ◌<◌, ◌+◌, ℕ, true, false, List, [], ◌∷◌, ◌++◌, Result, Ok, Err, OnOk, IsErrOf}
 use Rattle.salt_disk.specs.declared.disk.Fuse.{Fuse}
 use Rattle.salt_disk.specs.Disk.{DiskState}
 use Rattle.salt_disk.specs.Fuse.{Passes, burnt}
@@ -30,7 +30,8 @@ LeftAfter (Err (Full length most)) limit payloads payload file = IsJournal limit
 LeftAfter (Err Disk) limit payloads payload file = IsJournal limit payloads file ⊎ IsJournal limit (payloads ++ payload ∷ []) file
 
 -- An append makes four changing calls. A disk that tells which calls fail tells what an append that failed has left.
-pub record AppendBurns {T : Type 0} (journal : JournalState) (payload : List ℕ) (before now : Fuse) (old new : DiskState) (result : Result T AppendFault) : Type 0 where
+pub record AppendBurns {T : Type 0} (journal : JournalState) (payload : List ℕ) (before now : Fuse) (old new : DiskState)
+    (result : Result T AppendFault) : Type 0 where
   pub passed : OnOk result (Passes 4 before × (now ≡ burnt 4 before))
   pub not_passed : IsErrOf result Disk → Passes 4 before → ⊥
   pub stopped : IsErrOf result Disk → (payloads : List (List ℕ)) → Holds journal payloads old

@@ -6,11 +6,11 @@ use Rattle.salt_disk.specs.Disk.{PartState, DiskState, part_of, IsSettled}
 use Rattle.salt_disk.specs.declared.disk.Fuse.{Fuse}
 use Rattle.salt_disk.specs.Crash.{Image, MayLeave, IsWithin, OthersMayLeave}
 use Rattle.salt_disk.specs.Fuse.{Passes}
-use Rattle.gate_journal.specs.Layout.{least_limit, greatest_limit, fresh_length, record_overhead}
+use Rattle.gate_journal.specs.Layout.{least_limit, greatest_limit, fresh_length, record_overhead, open_gate, closed_gate}
 
 -- an open gate, the payload's length and the payload
 abbrev pub record_of : List ℕ → List ℕ
-record_of payload = 1 ∷ (big_bytes 4 (length payload) ++ payload)
+record_of payload = open_gate ∷ (big_bytes 4 (length payload) ++ payload)
 
 -- the records of these payloads, one behind the other
 abbrev pub records : List (List ℕ) → List ℕ
@@ -29,7 +29,7 @@ journal_length payloads = fresh_length + length (records payloads)
 pub record IsJournal (limit : ℕ) (payloads : List (List ℕ)) (bytes : List ℕ) : Type 0 where
   pub gate : ℕ
   pub rest : List ℕ
-  pub shut : gate ≢ 1
+  pub shut : gate ≢ open_gate
   pub bytes_are : bytes ≡ (header limit ++ records payloads) ++ gate ∷ rest
   pub within : journal_length payloads ≤ limit
   pub least : least_limit ≤ limit
@@ -43,7 +43,7 @@ pub record Rests (limit len : ℕ) (payloads : List (List ℕ)) (part : PartStat
 
 -- what stands behind the gate of a record that is the last one: it ends with a closed gate
 abbrev pub tail_of : List ℕ → List ℕ
-tail_of payload = (big_bytes 4 (length payload) ++ payload) ++ 0 ∷ []
+tail_of payload = (big_bytes 4 (length payload) ++ payload) ++ closed_gate ∷ []
 
 -- these bytes go behind the closed gate, for this payload, and there is room for it
 pub record IsNext (limit len : ℕ) (payloads : List (List ℕ)) (payload body : List ℕ) (part : PartState) : Type 0 where
@@ -69,8 +69,8 @@ pub record HoldsOldOrNew (part : Part) (limit : ℕ) (payloads : List (List ℕ)
 
 -- the gate of the new record decides which payloads the part holds
 pub record DecidedByGate (limit gate : ℕ) (payloads : List (List ℕ)) (payload file : List ℕ) : Type 0 where
-  pub opened : slice_index file gate ≡ 1 → IsJournal limit (payloads ++ payload ∷ []) file
-  pub shut : slice_index file gate ≢ 1 → IsJournal limit payloads file
+  pub opened : slice_index file gate ≡ open_gate → IsJournal limit (payloads ++ payload ∷ []) file
+  pub shut : slice_index file gate ≢ open_gate → IsJournal limit payloads file
 
 -- An append that failed. In its first two calls it left the payloads from before; in its last two the gate is unsure and decides.
 pub record StoppedAppend (part : Part) (limit len : ℕ) (payloads : List (List ℕ)) (payload : List ℕ) (before : Fuse) (now : DiskState) : Type 0 where

@@ -1,4 +1,4 @@
--- The numbers of the format, in bytes.
+-- The numbers of the format: limits, places and lengths in bytes, and the bytes of a gate.
 use Rattle.std.specs.Prelude.{ℕ}
 
 -- the least limit of a journal
@@ -20,3 +20,11 @@ fresh_length = 17
 -- what a record has beside its payload: its gate and the payload's length
 abbrev pub record_overhead : ℕ
 record_overhead = 5
+
+-- the byte of an open gate: a gate with any other byte is closed
+abbrev pub open_gate : ℕ
+open_gate = 1
+
+-- the byte of a closed gate, as it is written
+abbrev pub closed_gate : ℕ
+closed_gate = 0

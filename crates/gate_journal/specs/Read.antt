@@ -3,7 +3,7 @@ use Rattle.std.specs.Prelude.{◌≡◌, ◌≢◌, ◌⊎◌, ◌<◌, ◌≤�
 use Rattle.std.specs.Int.{w32, w64, from_be_bytes}
 use Rattle.gate_journal.specs.declared.fault.LoadFault.{LoadFault}
 use Rattle.gate_journal.specs.declared.fault.LoadFault.TheVariants.{NoMemory, Disk, NotAJournal, Damaged}
-use Rattle.gate_journal.specs.Layout.{least_limit, greatest_limit, first_gate, fresh_length, record_overhead}
+use Rattle.gate_journal.specs.Layout.{least_limit, greatest_limit, first_gate, fresh_length, record_overhead, open_gate}
 use Rattle.gate_journal.specs.Journal.{records, header}
 
 -- the number at place 8
@@ -15,7 +15,8 @@ abbrev pub IsNoJournal : List ℕ → Type 0
 IsNoJournal bytes = (length bytes < fresh_length) ⊎ (take 8 bytes ≢ codes "SALTJNL1") ⊎ (limit_in bytes < least_limit) ⊎ (greatest_limit < limit_in bytes)
 
 -- What stands behind an open gate is no whole record with a gate after it, or it goes past the limit.
--- A whole record and the gate after it have `record_overhead + 1` bytes beside the payload, one fewer without the open gate. There is room for so many bytes from the gate on.
+-- With the gate after it a record has `record_overhead + 1` bytes beside its payload, and behind its own gate one fewer.
+-- There is room for so many bytes from the gate on.
 abbrev pub IsBroken : ℕ → List ℕ → Type 0
 IsBroken room rest = (length rest < 4)
     ⊎ (length rest < record_overhead + from_be_bytes w32 (take 4 rest))
@@ -26,7 +27,7 @@ pub record IsDamagedAt (at : ℕ) (bytes : List ℕ) : Type 0 where
   pub limit : ℕ
   pub payloads : List (List ℕ)
   pub rest : List ℕ
-  pub bytes_are : bytes ≡ (header limit ++ records payloads) ++ 1 ∷ rest
+  pub bytes_are : bytes ≡ (header limit ++ records payloads) ++ open_gate ∷ rest
   pub place : at ≡ first_gate + length (records payloads)
   pub least : least_limit ≤ limit
   pub greatest : limit ≤ greatest_limit

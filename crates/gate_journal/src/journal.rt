@@ -1,5 +1,5 @@
 // A journal: a header, and records behind gates. A record counts where its gate is open.
-ghost use Rattle.std.specs.Prelude.{◌≡◌, ◌⊎◌, ◌<◌, ◌≤◌, ◌+◌, [], ℕ, true, false, length, IfOk, OnOk, IsErrOf};
+ghost use Rattle.std.specs.Prelude.{◌≡◌, ◌⊎◌, ◌<◌, ◌≤◌, [], ℕ, true, false, length, IfOk, OnOk, IsErrOf};
 ghost use Rattle.salt_disk.specs.Disk.{part_of, IsSettled, Stays};
 ghost use Rattle.salt_disk.specs.Crash.{MayLeave, LeavesOnly, OthersStay};
 ghost use Rattle.salt_disk.specs.Fuse.{Passes, burnt};
@@ -101,18 +101,22 @@ impl Journal {
         ensures others { D.is_told → OthersStay part (D.state disk.old) (D.state disk.new) }
 
         // A crash at any moment leaves no journal that loads, or an empty one, or where the part is not empty what it could leave before.
-        ensures any_moment { D.is_told → length (part_of (D.state disk.old) part).bytes ≤ fresh_length → LeavesOnly D.past D.state disk.old disk.new (HoldsNothing part (D.state disk.old)) }
-        ensures full_moment { D.is_told → fresh_length < length (part_of (D.state disk.old) part).bytes → LeavesOnly D.past D.state disk.old disk.new (MayLeave (D.state disk.old)) }
+        ensures any_moment { D.is_told → length (part_of (D.state disk.old) part).bytes ≤ fresh_length
+            → LeavesOnly D.past D.state disk.old disk.new (HoldsNothing part (D.state disk.old)) }
+        ensures full_moment { D.is_told → fresh_length < length (part_of (D.state disk.old) part).bytes
+            → LeavesOnly D.past D.state disk.old disk.new (MayLeave (D.state disk.old)) }
 
         // It makes four changing calls.
         ensures passed { D.is_told → OnOk result (Passes 4 (D.fuse disk.old) × (D.fuse disk.new ≡ burnt 4 (D.fuse disk.old))) }
         ensures not_passed { D.is_told → IsErrOf result CreateFault.Disk → Passes 4 (D.fuse disk.old) → ⊥ }
 
         // The causes.
-        ensures not_empty { D.is_told → (n : ℕ) → IsErrOf result (CreateFault.NotEmpty n) → (fresh_length < n) × (n ≡ length (part_of (D.state disk.old) part).bytes) }
+        ensures not_empty { D.is_told → (n : ℕ) → IsErrOf result (CreateFault.NotEmpty n)
+            → (fresh_length < n) × (n ≡ length (part_of (D.state disk.old) part).bytes) }
         ensures full { D.is_told → fresh_length < length (part_of (D.state disk.old) part).bytes
             → IsErrOf result (CreateFault.NotEmpty (length (part_of (D.state disk.old) part).bytes)) ⊎ IsErrOf result CreateFault.Disk }
-        ensures untouched { D.is_told → fresh_length < length (part_of (D.state disk.old) part).bytes → Stays (D.state disk.old) (D.state disk.new) (D.past disk.old) (D.past disk.new) }
+        ensures untouched { D.is_told → fresh_length < length (part_of (D.state disk.old) part).bytes
+            → Stays (D.state disk.old) (D.state disk.new) (D.past disk.old) (D.past disk.new) }
         ensures faults { CountsFaults (IsErrOf result CreateFault.Disk) (D.faults disk.old) (D.faults disk.new) }
     {
         let len = match disk.len(part) {

@@ -10,10 +10,16 @@ pub const GREATEST_LIMIT: u64 = 1_073_741_824;
 pub const HEADER_BYTES: usize = 16;
 
 /// The place of the first gate in bytes from the beginning of the part: it stands right behind the header.
-pub const FIRST_GATE: u64 = 16;
+pub const FIRST_GATE: u64 = HEADER_BYTES as u64;
 
 /// The length in bytes of a journal without payloads: the header and a closed gate.
-pub const FRESH_LENGTH: u64 = 17;
+pub const FRESH_LENGTH: u64 = FIRST_GATE + 1;
 
 /// The number of bytes that a record has beside its payload: the gate and the payload's length.
 pub const RECORD_OVERHEAD: u64 = 5;
+
+/// The byte of an open gate: a gate with any other byte is closed.
+pub const OPEN_GATE: u8 = 1;
+
+/// The byte of a closed gate, as it is written.
+pub const CLOSED_GATE: u8 = 0;

@@ -11,7 +11,8 @@ mod write;
 pub use fault::{AppendFault, CreateFault, LoadFault};
 pub use journal::Journal;
 pub use layout::{
-    FIRST_GATE, FRESH_LENGTH, GREATEST_LIMIT, HEADER_BYTES, LEAST_LIMIT, RECORD_OVERHEAD,
+    CLOSED_GATE, FIRST_GATE, FRESH_LENGTH, GREATEST_LIMIT, HEADER_BYTES, LEAST_LIMIT, OPEN_GATE,
+    RECORD_OVERHEAD,
 };
 pub use payload::{Payload, Payloads};
 

@@ -11,7 +11,8 @@ ghost use Rattle.gate_journal.specs.Journal.{IsJournal, records, header, journal
 ghost use Rattle.gate_journal.specs.Read.{IsNoJournal, IsBroken, IsDamagedAt};
 
 use crate::{
-    FIRST_GATE, GREATEST_LIMIT, HEADER_BYTES, LEAST_LIMIT, Payload, Payloads, RECORD_OVERHEAD,
+    FIRST_GATE, GREATEST_LIMIT, HEADER_BYTES, LEAST_LIMIT, OPEN_GATE, Payload, Payloads,
+    RECORD_OVERHEAD,
 };
 use salt_disk::{Disk, DiskFault, Part};
 use std::alloc::{AllocError, Global};
@@ -80,7 +81,7 @@ pub fn read_journal(alloc: Global, bytes: &[u8]) -> Result<(u64, Payloads, u64),
     let mut payloads = Payloads::new(alloc, FIRST_GATE);
     let mut at = FIRST_GATE;
     let mut rest = &bytes[HEADER_BYTES..];
-    while rest[0] == 1 {
+    while rest[0] == OPEN_GATE {
         let Some((payload, after)) = read_record(&rest[1..], limit - at) else {
             return Err(ReadFault::Damaged(at));
         };

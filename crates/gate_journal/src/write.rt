@@ -4,11 +4,11 @@ ghost use Rattle.salt_disk.specs.Disk.{part_of, IsSettled};
 ghost use Rattle.salt_disk.specs.Crash.{LeavesOnly, OthersStay};
 ghost use Rattle.salt_disk.specs.Causes.{HasCause};
 ghost use Rattle.salt_disk.specs.Fuse.{Burns};
-ghost use Rattle.gate_journal.specs.Layout.{least_limit, greatest_limit, fresh_length, record_overhead};
+ghost use Rattle.gate_journal.specs.Layout.{least_limit, greatest_limit, fresh_length, record_overhead, closed_gate};
 ghost use Rattle.gate_journal.specs.Journal.{Rests, IsNext, HoldsOldOrNew, StoppedAppend, header, tail_of};
 ghost use Rattle.gate_journal.specs.Fresh.{HoldsNothing};
 
-use crate::{HEADER_BYTES, RECORD_OVERHEAD};
+use crate::{CLOSED_GATE, HEADER_BYTES, OPEN_GATE, RECORD_OVERHEAD};
 use byteorder::{BigEndian, ByteOrder};
 use salt_disk::{Disk, DiskFault, Part, write_through};
 use std::alloc::{AllocError, Global};
@@ -23,7 +23,7 @@ pub fn body_of(alloc: Global, payload: &[u8]) -> Result<Vec<u8>, AllocError>
     let mut body = Vec::with_capacity(alloc, payload.len() + RECORD_OVERHEAD as usize)?;
     body.extend_from_slice(&length)?;
     body.extend_from_slice(payload)?;
-    body.push(0)?;
+    body.push(CLOSED_GATE)?;
     Ok(body)
 }
 
@@ -45,7 +45,7 @@ pub fn store<D: Disk>(disk: &mut D, part: Part, len: u64, body: &[u8]) -> Result
     ensures cause { HasCause (D.faults disk.old) (D.faults disk.new) result }
 {
     write_through(disk, part, len, body)?;
-    write_through(disk, part, len - 1, &[1])
+    write_through(disk, part, len - 1, &[OPEN_GATE])
 }
 
 // Writes the header with its first byte left out, and then that byte.
@@ -66,7 +66,7 @@ pub fn write_header<D: Disk>(disk: &mut D, part: Part, limit: u64) -> Result<(),
 
 // The bytes of an empty journal, with a 0 in place of the first.
 fn header_but_one(limit: u64) -> [u8; HEADER_BYTES + 1]
-    ensures { result ≡ 0 ∷ (drop 1 (header limit) ++ 0 ∷ []) }
+    ensures { result ≡ 0 ∷ (drop 1 (header limit) ++ closed_gate ∷ []) }
 {
     let mut bytes = [
         0, b'A', b'L', b'T', b'J', b'N', b'L', b'1', 0, 0, 0, 0, 0, 0, 0, 0, 0,
