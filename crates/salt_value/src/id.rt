@@ -14,9 +14,50 @@ use std::hash::{Hash, Hasher};
 use std::marker::Model;
 use thiserror::Error;
 
-/// A place in the fleet's list, from 0.
-#[derive(Clone, Copy, Debug, PartialEq, Eq, Hash)]
-pub struct NodeId(pub u32);
+/// A node's place in the list of its fleet, from 0, which is the top's. Contracts see the number.
+#[derive(Clone, Copy, Debug, PartialEq, Eq, Hash, PartialOrd, Ord)]
+pub struct NodeId {
+    place: u32,
+}
+
+impl Model for NodeId {
+    ghost use Rattle.std.specs.Prelude.{ℕ};
+    ghost use Rattle.std.specs.Coded.{coded_ℕ};
+
+    ghost Value = { ℕ };
+
+    ghost coded = { coded_ℕ };
+
+    ghost view = { λ n. n.place };
+
+    ghost inverse = { λ n. record { place = n } };
+}
+
+impl NodeId {
+    /// The top of every fleet.
+    pub const TOP: NodeId = NodeId { place: 0 };
+
+    /// The node at this place.
+    pub fn new(place: u32) -> NodeId
+        ensures { result ≡ place }
+    {
+        NodeId { place }
+    }
+
+    /// The place, from 0.
+    pub fn place(self) -> u32
+        ensures { result ≡ self }
+    {
+        self.place
+    }
+
+    /// The place as an index of a list with an item for each node.
+    pub fn index(self) -> usize
+        ensures { result ≡ self }
+    {
+        self.place as usize
+    }
+}
 
 /// The id of a node: 1 to 64 bytes, each a letter, a digit, `.`, `_` or `-`. The limit is this project's own.
 /// Its bytes stand inline, so that it takes no memory. Contracts see its bytes.
@@ -45,6 +86,9 @@ impl Model for MinionId {
 
     ghost inverse_ok = { back };
 }
+
+/// A list of ids, which contracts see as that list.
+pub type Ids = sqlite_items::Items<MinionId>;
 
 /// Why a text is no id, the first in this order.
 #[derive(Clone, Copy, Debug, Error, PartialEq, Eq)]

@@ -3,6 +3,7 @@
 
 mod bytes;
 mod copy;
+mod event;
 mod fault;
 mod fields;
 mod fits;
@@ -19,9 +20,10 @@ mod word;
 mod writing;
 
 pub use bytes::{put_text, put_u16, put_u32, put_u64, text_or, u8_or, u16_or, u32_or, u64_or};
+pub use event::Event;
 pub use fault::ValueFault;
 pub use fields::Pairs;
-pub use id::{IdFault, MinionId, NodeId};
+pub use id::{IdFault, Ids, MinionId, NodeId};
 pub use jid::{Jid, JidEnd};
 pub use laws::{numbers_read_back, prefix_free, texts_read_back, values_read_back};
 pub use outcome::{Outcome, Row, Rows};

@@ -1,5 +1,5 @@
-use crate::message::{Entry, Event, Job};
-use salt_value::{Fields, MinionId};
+use crate::message::{Entry, Job};
+use salt_value::{Event, Fields, MinionId};
 use sqlite_items::Items;
 
 /// A list of entries, which contracts see as that list.

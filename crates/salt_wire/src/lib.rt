@@ -18,7 +18,8 @@ mod writing;
 pub use deed::{Changed, Deed, Entries, ReactDeed, ReactDeeds};
 pub use fault::WireFault;
 pub use laws::messages_read_back;
-pub use message::{Entry, Event, Job, Message};
+pub use message::{Entry, Job, Message};
+pub use salt_value::{Event, Outcome};
 pub use wire::{
     decode, encode, read_entry, read_id, read_job, read_word, write_entry, write_id, write_job,
     write_word,

@@ -1,4 +1,4 @@
-use salt_value::{Fields, Items, Jid, MinionId, Outcome, Text, Value, Word};
+use salt_value::{Event, Fields, Items, Jid, MinionId, Outcome, Text, Word};
 use target_tree::{Kind, Target};
 
 /// A job: what is to be run, and on which minions. Its limits are this project's own: `tgt` has at
@@ -15,13 +15,6 @@ pub struct Job {
     /// The function's name.
     pub fun: Word,
     pub args: Items,
-}
-
-/// An event: its tag and its data.
-#[derive(Drop)]
-pub struct Event {
-    pub tag: Word,
-    pub body: Value,
 }
 
 /// What a minion sends up. `seq` is the number of a job on its master.

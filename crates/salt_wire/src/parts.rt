@@ -8,9 +8,9 @@ use crate::fields::{
     Parsed, byte_at, fields_at, items_at, jid_at, kind_at, number_at, short_text_at, value_at,
     word_at,
 };
-use crate::message::{Entry, Event, Job};
+use crate::message::{Entry, Job};
 use crate::tree::tree_at;
-use salt_value::Outcome;
+use salt_value::{Event, Outcome};
 use std::alloc::Global;
 
 // A job.

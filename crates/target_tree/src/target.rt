@@ -1,8 +1,8 @@
 ghost use Rattle.std.specs.Prelude.{◌≡◌, IfOk};
 
 use crate::copy;
-use salt_value::{MinionId, Text};
-use sqlite_items::{Boxed, Items};
+use salt_value::{Ids, Text};
+use sqlite_items::Boxed;
 use std::alloc::{AllocError, Global};
 
 /// Which minions are meant: the tree that a target's text stands for.
@@ -13,7 +13,7 @@ pub enum Target {
     /// Those whose whole id a pattern matches.
     IdPcre(Text),
     /// Those with one of these ids.
-    IdList(Items<MinionId>),
+    IdList(Ids),
     /// A path into the grains and a glob of the value there, joined by colons.
     GrainGlob(Text),
     /// A path into the grains and a pattern of the value there, joined by colons.

@@ -1,0 +1,34 @@
+//! Which function a row calls.
+use crate::spread::{cut, spread};
+use crate::{globs, ids, messages, scripts, targets, values};
+use std::alloc::{AllocError, Global};
+use target_tree::Groups;
+
+/// What a row's call answers: a value, or its fault.
+pub fn answer(alloc: Global, groups: &mut Groups, row: &str) -> Result<String, AllocError> {
+    let (name, rest) = cut(row);
+    let rest = spread(alloc, rest)?;
+    answer_to(alloc, groups, name, rest.as_str())
+}
+
+fn answer_to(
+    alloc: Global,
+    groups: &mut Groups,
+    name: &str,
+    rest: &str,
+) -> Result<String, AllocError> {
+    match name {
+        "id" => ids::id(alloc, rest),
+        "word" => ids::word(alloc, rest),
+        "jid" => ids::jid(alloc, rest),
+        "jid_after" => ids::jid_after(alloc, rest),
+        "glob" => globs::glob(alloc, rest),
+        "glob_caseless" => globs::glob_caseless(alloc, rest),
+        "group" => targets::group(alloc, groups, rest),
+        "target" => targets::target(alloc, groups, rest),
+        "value" => values::value(alloc, rest),
+        "message" => messages::message(alloc, rest),
+        "script" => scripts::script(alloc, rest),
+        _ => String::from_str(alloc, "no such call"),
+    }
+}

@@ -1,0 +1,8 @@
+//! Scripts.
+use std::alloc::{AllocError, Global};
+
+/// Not there yet.
+pub fn script(alloc: Global, rest: &str) -> Result<String, AllocError> {
+    let _ = rest;
+    String::from_str(alloc, "not yet")
+}
