@@ -1,12 +1,8 @@
 //! Remote execution over a tree of masters: the program.
 #![tactic(auto)]
 
-mod replay;
-#[cfg(test)]
-mod tests;
-
-use replay::salt_main;
 use salt_outside::{StdSink, StdSource};
+use salt_replay::salt_main;
 use salt_value::Text;
 use std::process::ExitCode;
 use std::{env, io};

@@ -1,6 +1,6 @@
 use Rattle.std.proofs.Common.{refl, ap, Err, inl, inr, arith}
-use Rattle.salt_node_cli.proofs.Runs.{replayed}
-use Rattle.salt_node_cli.proofs.replay.replay_script.Goals as goal
+use Rattle.salt_replay.proofs.Runs.{replayed}
+use Rattle.salt_replay.proofs.replay.replay_script.Goals as goal
 
 pub returns-in-Err-NoMemory-play : goal.returns-in-Err-NoMemory-play
 returns-in-Err-NoMemory-play g c =

@@ -11,7 +11,7 @@ use Rattle.salt_outside.proofs.Parts.{part_none}
 use Rattle.salt_outside.specs.Streams.{appended, preceded, IsPart, IsAtEnd, HasAtMost}
 use Rattle.script_text.specs.declared.script.Script.{Script}
 use Rattle.script_text.specs.Script.{Spells, MayStand}
-use Rattle.salt_node_cli.specs.Replay.{Replayed, MaySpell, DoesSpell, MayRefuse, IsReplayStatus, IsLineTold, refused_line, text_of_script}
+use Rattle.salt_replay.specs.Replay.{Replayed, MaySpell, DoesSpell, MayRefuse, IsReplayStatus, IsLineTold, refused_line, text_of_script}
 
 some_same : (a b : List ℕ) → Some a ≡ Some b → a ≡ b
 some_same a b e = cc

@@ -1,7 +1,7 @@
 use Rattle.std.proofs.Common.{◌∙◌, ◌++◌, sym, ap, arith, append_assoc}
 use Rattle.tree_world.specs.Text.{printed}
-use Rattle.salt_node_cli.proofs.Turns.{text_step, text_end, part_within, part_last, told_more}
-use Rattle.salt_node_cli.proofs.replay.run_turns.Goals as goal
+use Rattle.salt_replay.proofs.Turns.{text_step, text_end, part_within, part_last, told_more}
+use Rattle.salt_replay.proofs.replay.run_turns.Goals as goal
 
 pub returns-in_err-step-clause-part : goal.returns-in_err-step-clause-part
 returns-in_err-step-clause-part g c =

@@ -1,5 +1,5 @@
 // Rows of whole runs: what the sink holds, and the status. The expectations are worked out by hand from the rules of the network.
-use crate::replay::{run_replay, salt_main};
+use crate::{run_replay, salt_main};
 use salt_outside::{MemSink, MemSource};
 use salt_value::Text;
 use std::alloc::Global;

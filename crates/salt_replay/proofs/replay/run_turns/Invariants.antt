@@ -1,7 +1,7 @@
 use Rattle.std.proofs.Common.{◌≡◌, ◌≤◌, ◌++◌, List, ℕ, drop}
 use Rattle.salt_outside.specs.Streams.{appended}
 use Rattle.tree_world.specs.Text.{text_from}
-use Rattle.salt_node_cli.proofs.replay.run_turns.Given as goal
+use Rattle.salt_replay.proofs.replay.run_turns.Given as goal
 
 abbrev pub invariant-loop-turn : goal.invariant-loop-turn
 invariant-loop-turn g l = record {

@@ -5,7 +5,7 @@ ghost use Rattle.std.specs.List.{AllByRecursion};
 ghost use Rattle.tree_world.specs.Network.{IsTurn};
 ghost use Rattle.tree_world.specs.Text.{text_from};
 ghost use Rattle.script_text.specs.Script.{IsScript};
-ghost use Rattle.salt_node_cli.specs.Replay.{text_of_script, refused_line, IsLineTold, IsNoCommand, Replayed, StaysSound};
+ghost use Rattle.salt_replay.specs.Replay.{text_of_script, refused_line, IsLineTold, IsNoCommand, Replayed, StaysSound};
 ghost use Rattle.script_text.specs.declared.script.Script.{Script};
 
 use salt_outside::{Outside, ReadAll, Sink, Source, read_all};

@@ -4,8 +4,8 @@ use Rattle.tree_world.specs.declared.turn.Turn.{Turn}
 use Rattle.tree_world.specs.Network.{IsTurn}
 use Rattle.fleet_config.proofs.Fleets.{flat_is_fleet}
 use Rattle.script_text.specs.Script.{fleet_of}
-use Rattle.salt_node_cli.proofs.Runs.{are_turns}
-use Rattle.salt_node_cli.proofs.replay.scripts_stay_sound.Goals as goal
+use Rattle.salt_replay.proofs.Runs.{are_turns}
+use Rattle.salt_replay.proofs.replay.scripts_stay_sound.Goals as goal
 
 pub returns : goal.returns
 returns c = λ script h turns later e.
