@@ -1,6 +1,6 @@
 //! Which function a row calls.
 use crate::spread::{cut, spread};
-use crate::{globs, ids, messages, scripts, targets, values};
+use crate::{globs, ids, messages, replays, scripts, targets, values};
 use std::alloc::{AllocError, Global};
 use target_tree::Groups;
 
@@ -29,6 +29,11 @@ fn answer_to(
         "value" => values::value(alloc, rest),
         "message" => messages::message(alloc, rest),
         "script" => scripts::script(alloc, rest),
+        "replay" => replays::replay(alloc, rest),
+        "pair" => replays::pair(alloc, rest),
+        "failing_read" => replays::failing_read(alloc, rest),
+        "failing_write" => replays::failing_write(alloc, rest),
+        "command" => replays::command(alloc, rest),
         _ => String::from_str(alloc, "no such call"),
     }
 }

@@ -6,6 +6,7 @@ mod calls;
 mod globs;
 mod ids;
 mod messages;
+mod replays;
 mod scripts;
 mod spread;
 mod targets;

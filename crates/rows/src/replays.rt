@@ -1,0 +1,78 @@
+//! Whole runs. `|` stands for a line feed, in scripts and in what they write.
+use crate::spread::cut;
+use salt_outside::{MemSink, MemSource};
+use salt_replay::{run_replay, salt_main};
+use salt_value::Text;
+use std::alloc::{AllocError, Global};
+
+/// A top with the minions m1 and m2.
+const PAIR: &str = "%fleet|nodes:|- id: top|  role: top|- id: m1|  role: minion|  parent: top|- id: m2|  role: minion|  parent: top|%schedule|";
+
+/// What a script writes, and the status.
+pub fn replay(alloc: Global, script: &str) -> Result<String, AllocError> {
+    run(alloc, script, 0, 0)
+}
+
+/// The same of a schedule over two minions.
+pub fn pair(alloc: Global, turns: &str) -> Result<String, AllocError> {
+    run(alloc, pair_of(alloc, turns)?.as_str(), 0, 0)
+}
+
+/// The same where the read of this number fails, from 1.
+pub fn failing_read(alloc: Global, rest: &str) -> Result<String, AllocError> {
+    let (number, turns) = cut(rest);
+    let script = pair_of(alloc, turns)?;
+    run(alloc, script.as_str(), number.parse::<u64>().unwrap_or(0), 0)
+}
+
+/// The same where the write of this number fails, from 1.
+pub fn failing_write(alloc: Global, rest: &str) -> Result<String, AllocError> {
+    let (number, turns) = cut(rest);
+    let script = pair_of(alloc, turns)?;
+    run(alloc, script.as_str(), 0, number.parse::<u64>().unwrap_or(0))
+}
+
+/// What these words do over an empty schedule.
+pub fn command(alloc: Global, rest: &str) -> Result<String, AllocError> {
+    let mut words = Vec::new(alloc);
+    for word in rest.split(' ') {
+        if !word.is_empty() {
+            words.push(Text::new(String::from_str(alloc, word)?))?;
+        }
+    }
+    let script = pair_of(alloc, "%end|")?;
+    let mut source = MemSource::new(lines_of(alloc, script.as_str())?, Vec::new(alloc));
+    let mut sink = MemSink::new(alloc, Vec::new(alloc));
+    let status = salt_main(alloc, words.as_slice(), &mut source, &mut sink);
+    told(alloc, status.code, sink.bytes())
+}
+
+fn pair_of(alloc: Global, turns: &str) -> Result<String, AllocError> {
+    let mut script = String::from_str(alloc, PAIR)?;
+    script.push_str(turns)?;
+    Ok(script)
+}
+
+fn lines_of(alloc: Global, text: &str) -> Result<Vec<u8>, AllocError> {
+    let mut bytes = Vec::new(alloc);
+    for byte in text.as_bytes() {
+        bytes.push(if *byte == b'|' { b'\n' } else { *byte })?;
+    }
+    Ok(bytes)
+}
+
+// A run in which these calls of the source and the sink fail, 0 for none.
+fn run(alloc: Global, script: &str, read: u64, write: u64) -> Result<String, AllocError> {
+    let mut source = MemSource::new(lines_of(alloc, script)?, vec![in alloc; read]?);
+    let mut sink = MemSink::new(alloc, vec![in alloc; write]?);
+    let status = run_replay(alloc, &mut source, &mut sink);
+    told(alloc, status.code, sink.bytes())
+}
+
+fn told(alloc: Global, status: u8, written: &[u8]) -> Result<String, AllocError> {
+    let mut text = format!(in alloc; "status {status}: ")?;
+    for byte in written {
+        text.push(if *byte == b'\n' { '|' } else { *byte as char })?;
+    }
+    Ok(text)
+}
