@@ -1,5 +1,5 @@
 -- The whole input: its front of 65,536 bytes, and places from its front.
-use Rattle.std.proofs.Common.{◌≡◌, ℕ, zero, suc, ◌+◌, ◌-◌, ◌≤◌, min, Bool, true, false, nat_lt, List, [], ◌∷◌, ◌++◌, length, take, drop, Result, Ok, Err, refl, sym, ap, subst, ◌∙◌, append_assoc, arith, length-append}
+use Rattle.std.proofs.Common.{◌≡◌, ◌⊎◌, inl, inr, ℕ, zero, suc, ◌+◌, ◌-◌, ◌≤◌, min, Bool, true, false, nat_lt, List, [], ◌∷◌, ◌++◌, length, take, drop, Result, Ok, Err, refl, sym, ap, subst, ◌∙◌, append_assoc, arith, length-append}
 use Rattle.std.specs.Prelude.{IfOk, if◌then◌else◌}
 use Rattle.std.proofs.lemmas.List.{drop_at, length-take, take-append-drop}
 use Rattle.salt_value.specs.declared.fault.Misread.{Misread}
@@ -10,7 +10,8 @@ use Rattle.salt_value.specs.declared.value.Value.{Value}
 use Rattle.salt_value.specs.Spelling.{bytes}
 use Rattle.salt_value.specs.WellFormed.{Fits}
 use Rattle.salt_value.specs.FirstFault.{placed}
-use Rattle.salt_value.specs.Decoding.{IsBytes, value_at, turned, read_at, Answers, Fails}
+use Rattle.salt_value.specs.Readers.{Answers, Fails}
+use Rattle.salt_value.specs.Decoding.{IsBytes, value_at, turned, read_at}
 use Rattle.salt_value.proofs.ByteFields.{IsBytes-take, IsBytes-drop}
 use Rattle.salt_value.proofs.ReadLemmas.{ok_is}
 use Rattle.salt_value.proofs.ReadBack.{value_takes, value_again}
@@ -37,22 +38,15 @@ whole_ok input cut seen v rest s c e =
     let same : take 65536 input ≡ cut = sym (take-min input 65536) ∙ ap (λ k. take k input) (sym s) ∙ sym c in
     ap (λ l. turned (length input) (value_at 32 l)) same ∙ ap (turned (length input)) e ∙ ap (λ k. Ok (v, k - length rest)) (sym s)
 
-answers_of : (all seen : ℕ) (e : Misread) (r : Result (Value × List ℕ) Misread) → seen ≡ min all 65536 → Fails e r → Answers (Err (placed all seen e)) (turned all r)
-answers_of all seen misses.NoMemory r s h = tt
-answers_of all seen misses.Short r s h = short (nat_lt all 65536) (ap (turned all) h) where
-  short : (b : Bool) → turned all r ≡ Err (if b then faults.Short else faults.TooLarge) → Answers (Err (if b then faults.Short else faults.TooLarge)) (turned all r)
-  short true e = e
-  short false e = e
-answers_of all seen (misses.BadTag n) r s h = ap (turned all) h ∙ ap (λ k. Err (faults.BadTag (k - n))) (sym s)
-answers_of all seen (misses.Unsorted n) r s h = ap (turned all) h ∙ ap (λ k. Err (faults.Unsorted (k - n))) (sym s)
-answers_of all seen (misses.NotUtf8 n) r s h = ap (turned all) h ∙ ap (λ k. Err (faults.NotUtf8 (k - n))) (sym s)
-answers_of all seen misses.TooDeep r s h = ap (turned all) h
+answers_of : (all seen : ℕ) (e : Misread) (r : Result (Value × List ℕ) Misread) → seen ≡ min all 65536 → Fails misses.NoMemory e r → Answers faults.NoMemory (Err (placed all seen e)) (turned all r)
+answers_of all seen e r s (inl h) = inl (ap (placed all seen) h)
+answers_of all seen e r s (inr h) = inr (ap (turned all) h ∙ ap (λ k. Err (placed all k e)) (sym s))
 
-pub whole_err : (input cut : List ℕ) (seen : ℕ) (e : Misread) → seen ≡ min (length input) 65536 → cut ≡ take seen input → Fails e (value_at 32 cut) → Answers (Err (placed (length input) seen e)) (read_at input)
+pub whole_err : (input cut : List ℕ) (seen : ℕ) (e : Misread) → seen ≡ min (length input) 65536 → cut ≡ take seen input → Fails misses.NoMemory e (value_at 32 cut) → Answers faults.NoMemory (Err (placed (length input) seen e)) (read_at input)
 unfolding read_at
 whole_err input cut seen e s c h =
     let same : cut ≡ take 65536 input = c ∙ ap (λ k. take k input) s ∙ take-min input 65536 in
-    answers_of (length input) seen e (value_at 32 (take 65536 input)) s (subst (λ (l : List ℕ). Fails e (value_at 32 l)) same h)
+    answers_of (length input) seen e (value_at 32 (take 65536 input)) s (subst (λ (l : List ℕ). Fails misses.NoMemory e (value_at 32 l)) same h)
 
 -- ---- the two laws, of the whole input
 
@@ -84,7 +78,7 @@ found_whole input v n fits e =
     let after : drop (length (bytes v)) input ≡ f.3.0 = ap (drop (length (bytes v))) f.3.1 ∙ drop_at (bytes v) f.3.0 (length (bytes v)) refl in
     (f.0, f.1, (f.3.0, f.3.1, subst IsBytes after (IsBytes-drop (length (bytes v)) input fits)))
 
-pub is_found : (input : List ℕ) (r : Result (Value × ℕ) ValueFault) → IsBytes input → Answers r (read_at input) → IfOk r (Found input)
+pub is_found : (input : List ℕ) (r : Result (Value × ℕ) ValueFault) → IsBytes input → Answers faults.NoMemory r (read_at input) → IfOk r (Found input)
 is_found input (Ok x) fits given = found_ok input x fits given
 is_found input (Err e) fits given = tt
 

@@ -10,10 +10,9 @@ mod fits;
 mod id;
 mod jid;
 mod laws;
+mod limits;
 mod outcome;
 mod reading;
-#[cfg(test)]
-mod tests;
 mod text;
 mod value;
 mod word;

@@ -1,6 +1,7 @@
 ghost use Rattle.std.specs.Prelude.{◌≡◌, not, position, IfOk, IfErr};
 ghost use Rattle.salt_value.specs.Word as spec;
 
+use crate::limits::MOST_WORD_BYTES;
 use std::alloc::{AllocError, Global};
 use std::marker::Model;
 use thiserror::Error;
@@ -80,7 +81,7 @@ impl Word {
         if text.is_empty() {
             return Err(WordFault::Empty);
         }
-        if text.len() > 256 {
+        if text.len() > MOST_WORD_BYTES {
             return Err(WordFault::TooLong { length: text.len() });
         }
         match first_bad(text.as_bytes()) {
