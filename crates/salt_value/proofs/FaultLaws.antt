@@ -11,13 +11,12 @@ use Rattle.salt_value.specs.Keys.{keys_of, last_key, comes_after}
 use Rattle.salt_value.specs.Spelling.{bytes, text, joined, pairs_joined, spelled_pairs}
 use Rattle.salt_value.specs.WellFormed.{well_formed, IsWellFormed, is_text, every, every_pair, depth, greatest, AllWellFormed, PairsWellFormed}
 use Rattle.salt_value.specs.Readers.{◌>>=◌, Reader, several, Answers}
-use Rattle.salt_value.specs.Decoding.{IsBytes, count_at, number_or, text_or, int_at, text_at, room_at, key_at, pair_at, pairs_at, value_at, turned, read_at, after_tag}
+use Rattle.salt_value.specs.Decoding.{IsBytes, count_at, number_or, text_or, int_at, text_at, room_at, key_at, pair_at, pairs_at, value_at, from_front, read_at, after_tag}
 use Rattle.std.specs.Prelude.{IfErr, ◌≢◌, min}
 use Rattle.salt_value.specs.declared.fault.ValueFault.{ValueFault}
 use Rattle.salt_value.specs.declared.fault.ValueFault.TheVariants as faults
-use Rattle.salt_value.specs.FirstFault.{FirstFault, placed, Faults, IsCut, Counted, TextFault, KeyFault, ItemsFault, PairFault, PairsFault, TagFault, ValueFaults}
+use Rattle.salt_value.specs.FirstFault.{FirstFault, value_fault, Faults, IsCut, Counted, TextFault, KeyFault, ItemsFault, PairFault, PairsFault, TagFault, ValueFaults}
 use Rattle.salt_value.specs.Tags.{Tag, tag_of}
-use Rattle.salt_value.specs.Limits.{most_value_bytes}
 use Rattle.salt_value.proofs.ReadLemmas.{tagged, tag_of-past, guard_ok}
 use Rattle.salt_value.proofs.WriteLemmas.{both_true, pairs_told}
 use Rattle.salt_value.proofs.ByteFields.{IsBytes-rest, IsBytes-take, wide32, number_takes, number_again, text_takes, text_again, key_takes, key_again, both}
@@ -319,14 +318,14 @@ value_is (suc d) (tag ∷ b) f h = tagged_is d (value_at d) (ValueFaults d) (val
 
 -- ---- the whole input
 
-turned_err : (n : ℕ) (r : Result (Value × List ℕ) Misread) (e : ValueFault) → turned n r ≡ Err e → (f : Misread) × (r ≡ Err f) × (e ≡ placed n (min n 65536) f)
-turned_err n (Ok x) e h = absurd cc
-turned_err n (Err f) e h = (f, refl, cc)
+from_front_err : (n : ℕ) (r : Result (Value × List ℕ) Misread) (e : ValueFault) → from_front n r ≡ Err e → (f : Misread) × (r ≡ Err f) × (e ≡ value_fault n (min n 65536) f)
+from_front_err n (Ok x) e h = absurd cc
+from_front_err n (Err f) e h = (f, refl, cc)
 
 first_of : (input : List ℕ) (e : ValueFault) → IsBytes input → read_at input ≡ Err e → FirstFault input e
 unfolding read_at
 first_of input e fits h =
-    let a = turned_err (length input) (value_at 32 (take 65536 input)) e h in
+    let a = from_front_err (length input) (value_at 32 (take 65536 input)) e h in
     (a.0, value_fails 32 (take 65536 input) a.0 (IsBytes-take 65536 input fits) a.1, a.2)
 
 pub is_first : (input : List ℕ) (r : Result (Value × ℕ) ValueFault) → IsBytes input → Answers faults.NoMemory r (read_at input) → IfErr r (λ e. e ≢ faults.NoMemory → FirstFault input e)
@@ -336,4 +335,4 @@ is_first input (Err e) fits (inr h) = λ ne. first_of input e fits h
 
 pub is_met : (input : List ℕ) (e : ValueFault) → FirstFault input e → read_at input ≡ Err e
 unfolding read_at
-is_met input e h = ap (turned (length input)) (value_is 32 (take 65536 input) h.0 h.1) ∙ ap (λ g. Err g) (sym h.2)
+is_met input e h = ap (from_front (length input)) (value_is 32 (take 65536 input) h.0 h.1) ∙ ap (λ g. Err g) (sym h.2)

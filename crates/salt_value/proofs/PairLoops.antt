@@ -4,7 +4,7 @@ use Rattle.std.proofs.lemmas.List.{append-nil}
 use Rattle.salt_value.specs.declared.fault.Misread.{Misread}
 use Rattle.salt_value.specs.declared.fault.Misread.TheVariants.{NoMemory}
 use Rattle.salt_value.specs.Keys.{last_key}
-use Rattle.salt_value.specs.Readers.{◌>>=◌, Fails, Reader}
+use Rattle.salt_value.specs.Readers.{Fails, Reader}
 use Rattle.salt_value.specs.Decoding.{pair_at, pairs_at}
 use Rattle.salt_value.proofs.KeyLemmas.{last_key-push}
 use Rattle.salt_value.proofs.ReaderLoops.{with_front, regroup, Fails-along}

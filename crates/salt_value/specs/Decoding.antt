@@ -3,9 +3,8 @@ use Rattle.std.specs.Prelude.{◌≡◌, ℕ, ℤ, zero, suc, ◌-◌, ◌<◌, 
 use Rattle.std.specs.Str.{is_utf8}
 use Rattle.std.specs.Int.{Width, w32, w64, byte_len, from_be_bytes, cast_signed}
 use Rattle.salt_value.specs.declared.fault.Misread.{Misread}
-use Rattle.salt_value.specs.declared.fault.Misread.TheVariants.{NoMemory, Short, BadTag, Unsorted, NotUtf8, TooDeep}
+use Rattle.salt_value.specs.declared.fault.Misread.TheVariants.{Short, BadTag, Unsorted, NotUtf8, TooDeep}
 use Rattle.salt_value.specs.declared.fault.ValueFault.{ValueFault}
-use Rattle.salt_value.specs.declared.fault.ValueFault.TheVariants as faults
 use Rattle.salt_value.specs.declared.value.Value.{Value}
 use Rattle.salt_value.specs.declared.value.Value.TheVariants as v
 use Rattle.salt_value.specs.Keys.{comes_after}
@@ -13,7 +12,7 @@ use Rattle.salt_value.specs.Limits.{most_value_levels, most_value_bytes}
 use Rattle.salt_value.specs.Tags as tag
 use Rattle.salt_value.specs.Tags.{Tag, tag_of}
 use Rattle.salt_value.specs.Readers.{Reader, ◌>>=◌, several}
-use Rattle.salt_value.specs.FirstFault.{placed}
+use Rattle.salt_value.specs.FirstFault.{value_fault}
 
 -- each of the numbers is a byte
 abbrev pub IsBytes : List ℕ → Type 0
@@ -108,10 +107,10 @@ value_at (suc d) (code ∷ bytes) = after_tag d (value_at d) (tag_of code) bytes
 -- ---- a whole input, with places counted from its front
 
 -- a value and how many bytes it takes, or the fault by its place
-abbrev pub turned : ℕ → Result (Value × List ℕ) Misread → Result (Value × ℕ) ValueFault
-turned n (Ok x) = Ok (x.0, min n most_value_bytes - length x.1)
-turned n (Err e) = Err (placed n (min n most_value_bytes) e)
+abbrev pub from_front : ℕ → Result (Value × List ℕ) Misread → Result (Value × ℕ) ValueFault
+from_front n (Ok x) = Ok (x.0, min n most_value_bytes - length x.1)
+from_front n (Err e) = Err (value_fault n (min n most_value_bytes) e)
 
 -- the value that begins an input and how many bytes it takes, or the first fault of its first 65,536 bytes
 unfoldable pub read_at : List ℕ → Result (Value × ℕ) ValueFault
-read_at input = turned (length input) (value_at most_value_levels (take most_value_bytes input))
+read_at input = from_front (length input) (value_at most_value_levels (take most_value_bytes input))

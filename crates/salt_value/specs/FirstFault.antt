@@ -69,14 +69,14 @@ ValueFaults (suc d) [] f = f ≡ Short
 ValueFaults (suc d) (code ∷ b) f = TagFault d (ValueFaults d) (tag_of code) b f
 
 -- a fault of an input of n bytes, of which so many were looked at, by its place from the front
-abbrev pub placed : ℕ → ℕ → Misread → ValueFault
-placed n seen NoMemory = faults.NoMemory
-placed n seen Short = if nat_lt n most_value_bytes then faults.Short else faults.TooLarge
-placed n seen (BadTag left) = faults.BadTag (seen - left)
-placed n seen (Unsorted left) = faults.Unsorted (seen - left)
-placed n seen (NotUtf8 left) = faults.NotUtf8 (seen - left)
-placed n seen TooDeep = faults.TooDeep
+abbrev pub value_fault : ℕ → ℕ → Misread → ValueFault
+value_fault n seen NoMemory = faults.NoMemory
+value_fault n seen Short = if nat_lt n most_value_bytes then faults.Short else faults.TooLarge
+value_fault n seen (BadTag left) = faults.BadTag (seen - left)
+value_fault n seen (Unsorted left) = faults.Unsorted (seen - left)
+value_fault n seen (NotUtf8 left) = faults.NotUtf8 (seen - left)
+value_fault n seen TooDeep = faults.TooDeep
 
 -- the first fault of an input, of which the first 65,536 bytes alone are looked at
 abbrev pub FirstFault : List ℕ → ValueFault → Type 0
-FirstFault input e = (f : Misread) × ValueFaults most_value_levels (take most_value_bytes input) f × (e ≡ placed (length input) (min (length input) most_value_bytes) f)
+FirstFault input e = (f : Misread) × ValueFaults most_value_levels (take most_value_bytes input) f × (e ≡ value_fault (length input) (min (length input) most_value_bytes) f)

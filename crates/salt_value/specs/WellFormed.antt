@@ -74,7 +74,7 @@ abbrev pub depth : Value → ℕ
 depth = fold-Value ℕ depth_layer
 
 -- the value is well-formed and within the limits of depth and bytes
-pub record Fits (v : Value) : Type 0 where
+pub record ValueFits (v : Value) : Type 0 where
   pub deep : depth v ≤ most_value_levels
   pub long : length (bytes v) ≤ most_value_bytes
   pub well_formed : IsWellFormed v

@@ -1,4 +1,4 @@
-// Numbers and texts as bytes.
+//! Numbers and texts as bytes.
 ghost use Rattle.std.specs.Prelude.{◌≡◌, ◌<◌, ◌^◌, ◌++◌, List, ℕ, length, true, false, MatchOption, OnOk, OnErr};
 ghost use Rattle.std.specs.Int.{w8, w16, w32, w64, to_be_bytes};
 ghost use Rattle.std.specs.Str.{is_utf8};

@@ -1,3 +1,4 @@
+//! Places and ids of nodes.
 ghost use Rattle.std.specs.Prelude.{◌≡◌, ◌≤◌, ◌-◌, ◌++◌, length, not, position, replicate, refl, nat_eq, Some, IsOk, IfOk, IfErr};
 ghost use Rattle.std.proofs.Common.{rules};
 ghost use Rattle.std.specs.Str.{bytes_eq};
@@ -140,7 +141,7 @@ impl MinionId {
     pub fn from_bytes(text: &[u8]) -> Result<MinionId, IdFault>
         ensures ok { IfOk result (λ id. (id ≡ text.now) × IsId text.now) }
         ensures fault { IfErr result (HasFault text.now) }
-        ensures succeeds { IsId text.now → IsOk result }
+        ensures complete { IsId text.now → IsOk result }
     {
         if text.is_empty() {
             return Err(IdFault::Empty);
@@ -161,7 +162,7 @@ impl MinionId {
     pub fn read(text: &str) -> Result<MinionId, IdFault>
         ensures ok { IfOk result (λ id. (id ≡ text.now) × IsId text.now) }
         ensures fault { IfErr result (HasFault text.now) }
-        ensures succeeds { IsId text.now → IsOk result }
+        ensures complete { IsId text.now → IsOk result }
     {
         MinionId::from_bytes(text.as_bytes())
     }

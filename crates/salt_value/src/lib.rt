@@ -1,4 +1,5 @@
-//! Ids of nodes and of jobs, words, texts and values, and values as bytes.
+//! Ids of nodes and of jobs, words, texts and values, and values as bytes. `Value::read(alloc, bytes)?` gives the value that begins
+//! some bytes and how many bytes it takes, and `value.write(&mut out)?` appends those bytes again.
 #![tactic(auto)]
 
 mod bytes;

@@ -1,4 +1,4 @@
-// Values read from bytes.
+//! Values read from bytes.
 ghost use Rattle.std.specs.Prelude.{◌≡◌, None};
 ghost use Rattle.std.specs.Option.{option_copied};
 ghost use Rattle.salt_value.specs.Keys.{comes_after, before};
@@ -7,7 +7,7 @@ ghost use Rattle.salt_value.specs.Readers.{Gives, Answers, several};
 ghost use Rattle.salt_value.specs.declared.fault.Misread.TheVariants.{NoMemory};
 ghost use Rattle.salt_value.specs.declared.fault.ValueFault.TheVariants as faults;
 ghost use Rattle.salt_value.specs.Tags.{tag_of};
-ghost use Rattle.salt_value.specs.FirstFault.{placed};
+ghost use Rattle.salt_value.specs.FirstFault.{value_fault};
 
 use crate::bytes::{text_or, u32_or, u64_or};
 use crate::fault::{Misread, ValueFault};
@@ -170,7 +170,7 @@ fn pairs_at(
 
 // A fault by its place from the front, where so many bytes of all were looked at.
 fn place(misread: Misread, all: usize, seen: usize) -> ValueFault
-    ensures { result ≡ placed all seen misread }
+    ensures { result ≡ value_fault all seen misread }
 {
     match misread {
         Misread::NoMemory => ValueFault::NoMemory,

@@ -1,3 +1,4 @@
+//! Texts.
 ghost use Rattle.std.specs.Prelude.{◌≡◌, IfOk};
 
 use std::alloc::AllocError;

@@ -1,3 +1,4 @@
+//! Words: the tags of events and the names of functions.
 ghost use Rattle.std.specs.Prelude.{◌≡◌, not, position, IfOk, IfErr};
 ghost use Rattle.salt_value.specs.Word as spec;
 
@@ -76,7 +77,7 @@ impl Word {
     pub fn read(alloc: Global, text: &str) -> Result<Word, WordFault>
         ensures ok { IfOk result (λ word. (word ≡ text.now) × IsWord text.now) }
         ensures fault { IfErr result (HasFault text.now) }
-        ensures succeeds { IsWord text.now → IfErr result (λ e. e ≡ WordFault.NoMemory) }
+        ensures complete { IsWord text.now → IfErr result (λ e. e ≡ WordFault.NoMemory) }
     {
         if text.is_empty() {
             return Err(WordFault::Empty);

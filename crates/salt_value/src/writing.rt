@@ -1,4 +1,4 @@
-// Values written as bytes.
+//! Values written as bytes.
 ghost use Rattle.std.specs.Prelude.{◌≡◌, ◌<◌, ◌^◌, ◌++◌, List, ℕ, length, map, OnOk, OnErr};
 ghost use Rattle.std.specs.Int.{w32, to_be_bytes};
 ghost use Rattle.salt_value.specs.Spelling.{bytes, joined, pairs_joined, spelled_pairs};
