@@ -3,6 +3,7 @@
 #![tactic(auto)]
 
 mod calls;
+mod digits;
 mod globs;
 mod ids;
 mod messages;

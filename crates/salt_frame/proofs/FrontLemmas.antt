@@ -1,5 +1,5 @@
 -- The frame at the front of whole frames.
-use Rattle.std.proofs.Common.{◌≡◌, ℕ, ◌+◌, ◌-◌, ◌^◌, ◌<◌, ◌≤◌, List, [], ◌∷◌, ◌++◌, length, get_or, take, drop, inl, inr, Option, Some, refl, sym, ap, subst, ◌∙◌, append_assoc, arith, length-append}
+use Rattle.std.proofs.Common.{◌≡◌, ℕ, ◌+◌, ◌-◌, ◌^◌, ◌<◌, ◌≤◌, List, [], ◌∷◌, ◌++◌, length, get_or, take, drop, inl, inr, refl, sym, ap, ◌∙◌, append_assoc, arith, length-append}
 use Rattle.std.specs.Int.{w32, to_be_bytes}
 use Rattle.std.specs.List.{AllByRecursion}
 use Rattle.std.proofs.lemmas.List.{take_at, drop_at, take_all, length-take, length-drop, drop-drop, take-append-drop, get_or-take, get_or_past, append-nil}
@@ -8,8 +8,6 @@ use Rattle.std.proofs.lemmas.List.Concat.{flat_map-cons}
 use Rattle.std.proofs.lemmas.Nat.{from_be_bytes-to_be_bytes_4, be_bytes_4}
 use Rattle.salt_frame.specs.Frames.{frame, frames, IsBody, length_at}
 use Rattle.salt_frame.specs.Inside.{AreFrames}
-use Rattle.salt_frame.specs.Held.{Held, Takes}
-use Rattle.salt_frame.proofs.Readings.{prefix_free}
 
 pub record Front (m : ℕ) (kept : List ℕ) (body : List ℕ) : Type 0 where
   pub fits : IsBody body
@@ -112,9 +110,3 @@ more_ready bytes from at size body le within r small s e =
     (room, (r.0 ++ body ∷ [], cut ∙ ap (λ l. l ++ frame body) r.1 ∙ sym (frames_append r.0 body), all_append r.0 body r.2 small))
 
 -- the body at the front is taken
-pub taken : (old : Held) (x more : List ℕ) (over : Option ℕ) → IsBody x → old.kept ≡ frame x ++ more → over ≡ old.over → Takes old (Some x) (record { kept = more; over = over })
-taken old x more over h k o = record {
-  some = λ body e. let s : x ≡ body = cc in (subst IsBody s h, k ∙ ap (λ b. frame b ++ more) s, o);
-  none = λ e. absurd cc;
-  whole = λ body others g e. let p = prefix_free x body more others h g (sym k ∙ e) in (ap (λ (l : List ℕ). Some l) p.0, p.1);
-}

@@ -1,99 +1,8 @@
 -- However the stream is cut into feeds, the buffer holds what was not taken of it.
-use Rattle.std.proofs.Common.{◌≡◌, ℕ, inl, inr, List, [], ◌∷◌, ◌++◌, Option, Some, None, refl, sym, ap, subst, ◌∙◌, append_assoc, arith}
-use Rattle.std.specs.Int.{w32, to_be_bytes}
-use Rattle.std.specs.List.{AllByRecursion}
+use Rattle.std.proofs.Common.{inl, List, [], ◌∷◌, ◌++◌, ℕ, None, refl, sym, subst, append_assoc, arith}
 use Rattle.std.proofs.lemmas.List.{append-nil}
-use Rattle.std.proofs.lemmas.List.Concat.{flat_map-cons}
-use Rattle.salt_frame.specs.Frames.{frame, frames, IsBody, IsOver, Ends, Reads}
-use Rattle.salt_frame.specs.Held.{Held, kept_of, Holds, Takes}
-use Rattle.salt_frame.specs.Runs.{Event, fed, took, Moves, Runs, stream, bodies, AnyCutting}
-use Rattle.salt_frame.proofs.Readings.{prefix_free, not_ends}
-use Rattle.salt_frame.proofs.FeedLemmas.{frames_join, all_join, all_first}
-
--- more bytes after all frames
-more_over : (n : ℕ) (x p : List ℕ) → IsOver n x → IsOver n (x ++ p)
-more_over n x p o = (o.0, o.1, (o.2.0 ++ p, ap (λ l. l ++ p) o.2.1 ∙ append_assoc (to_be_bytes w32 n) o.2.0 p))
-
-ends_more : (over : Option ℕ) (n : ℕ) (x p : List ℕ) → over ≡ Some n → Ends over x → Ends over (x ++ p)
-ends_more None n x p e h = absurd cc
-ends_more (Some m) n x p e h = more_over m x p h
-
-kept_more : (over : Option ℕ) (n : ℕ) (x p : List ℕ) → over ≡ Some n → kept_of over x ≡ kept_of over (x ++ p)
-kept_more None n x p e = absurd cc
-kept_more (Some m) n x p e = refl
-
-kept_none : (over : Option ℕ) (x : List ℕ) → over ≡ None → kept_of over x ≡ x
-kept_none None x e = refl
-kept_none (Some m) x e = absurd cc
-
-again : (s p : List ℕ) (taken : List (List ℕ)) (old : Held) (n : ℕ) → old.over ≡ Some n → Holds s taken old → Holds (s ++ p) taken old
-again s p taken old n e h = record {
-  others = h.others;
-  rest = h.rest ++ p;
-  reads = record {
-    splits = record {
-      whole = ap (λ l. l ++ p) h.reads.splits.whole ∙ append_assoc (frames (taken ++ h.others)) h.rest p;
-      each = h.reads.splits.each;
-    };
-    ends = ends_more old.over n h.rest p e h.reads.ends;
-  };
-  kept = h.kept ∙ ap (λ l. frames h.others ++ l) (kept_more old.over n h.rest p e);
-}
-
--- the stream is what was taken and what is kept
-all_kept : (s : List ℕ) (taken : List (List ℕ)) (old : Held) → old.over ≡ None → Holds s taken old → s ≡ frames taken ++ old.kept
-all_kept s taken old e h =
-    h.reads.splits.whole ∙ ap (λ l. l ++ h.rest) (frames_join taken h.others) ∙ append_assoc (frames taken) (frames h.others) h.rest
-    ∙ ap (λ l. frames taken ++ l) (ap (λ l. frames h.others ++ l) (sym (kept_none old.over h.rest e)) ∙ sym h.kept)
-
-added : (s p : List ℕ) (taken : List (List ℕ)) (old new : Held) → old.over ≡ None → Holds s taken old → Holds (old.kept ++ p) [] new → Holds (s ++ p) taken new
-added s p taken old new e h g = record {
-  others = g.others;
-  rest = g.rest;
-  reads = record {
-    splits = record {
-      whole = ap (λ l. l ++ p) (all_kept s taken old e h) ∙ append_assoc (frames taken) old.kept p ∙ ap (λ l. frames taken ++ l) g.reads.splits.whole
-          ∙ sym (append_assoc (frames taken) (frames g.others) g.rest) ∙ ap (λ l. l ++ g.rest) (sym (frames_join taken g.others));
-      each = all_join taken g.others (all_first taken h.others h.reads.splits.each) g.reads.splits.each;
-    };
-    ends = g.reads.ends;
-  };
-  kept = g.kept;
-}
-
-fed_holds : (s p : List ℕ) (taken : List (List ℕ)) (old new : Held) → Holds s taken old → Moves old (fed p) new → Holds (s ++ p) taken new
-fed_holds s p taken old new h (inl g) = added s p taken old new g.0 h g.1
-fed_holds s p taken old new h (inr g) = subst (Holds (s ++ p) taken) (sym g.2) (again s p taken old g.0 g.1 h)
-
--- what is kept of the rest begins with no frame
-not_kept : (over : Option ℕ) (x b y : List ℕ) → Ends over x → IsBody b → kept_of over x ≡ frame b ++ y → ⊥
-not_kept None x b y e h same = not_ends None b y h (subst (Ends None) same e)
-not_kept (Some n) x b y e h same = not_ends (Some n) b y h (subst (Ends (Some n)) same (e.0, e.1, ([], sym (append-nil (to_be_bytes w32 n)))))
-
-one_taken : (s : List ℕ) (taken : List (List ℕ)) (new : Held) (others : List (List ℕ)) (rest b : List ℕ) → Reads s (taken ++ others) new.over rest → IsBody b
-    → frames others ++ kept_of new.over rest ≡ frame b ++ new.kept → Holds s (taken ++ b ∷ []) new
-one_taken s taken new [] rest b r h e = absurd (not_kept new.over rest b new.kept r.ends h e)
-one_taken s taken new (c ∷ cs) rest b r h e =
-    let all = all_other taken (c ∷ cs) r.splits.each in
-    let front : frame c ++ (frames cs ++ kept_of new.over rest) ≡ frame b ++ new.kept
-    = sym (append_assoc (frame c) (frames cs) (kept_of new.over rest)) ∙ ap (λ l. l ++ kept_of new.over rest) (sym (flat_map-cons frame c cs)) ∙ e in
-    let same = prefix_free c b (frames cs ++ kept_of new.over rest) new.kept all.0 h front in
-    let list : taken ++ c ∷ cs ≡ (taken ++ b ∷ []) ++ cs = ap (λ l. taken ++ l ∷ cs) same.0 ∙ sym (append_assoc taken (b ∷ []) cs) in
-    record {
-      others = cs;
-      rest = rest;
-      reads = subst (λ l. Reads s l new.over rest) list r;
-      kept = sym same.1;
-    } where
-      all_other : (xs ys : List (List ℕ)) → AllByRecursion IsBody (xs ++ ys) → AllByRecursion IsBody ys
-      all_other [] ys h = h
-      all_other (x ∷ xs) ys h = all_other xs ys h.1
-
-took_holds : (s : List ℕ) (taken : List (List ℕ)) (old new : Held) (b : List ℕ) → Holds s taken old → Takes old (Some b) new → Holds s (taken ++ b ∷ []) new
-took_holds s taken old new b h t =
-    let m = t.some b refl in
-    one_taken s taken new h.others h.rest b (subst (λ o. Reads s (taken ++ h.others) o h.rest) (sym m.2) h.reads) m.0
-    (ap (λ o. frames h.others ++ kept_of o h.rest) m.2 ∙ sym h.kept ∙ m.1)
+use Rattle.salt_frame.specs.Held.{Held, Holds}
+use Rattle.salt_frame.specs.Runs.{Event, fed, took, Runs, stream, bodies, AnyCutting}
 
 holds : (es : List Event) (s : List ℕ) (taken : List (List ℕ)) (old new : Held) → Holds s taken old → Runs old es new → Holds (s ++ stream es) (taken ++ bodies es) new
 holds [] s taken old new h r =
@@ -101,10 +10,10 @@ holds [] s taken old new h r =
     (subst (λ (l : List (List ℕ)). Holds s l new) (sym (append-nil taken)) (subst (Holds s taken) (sym r) h))
 holds (fed p ∷ es) s taken old new h r =
     subst (λ (l : List ℕ). Holds l (taken ++ bodies es) new) (append_assoc s p (stream es))
-    (holds es (s ++ p) taken r.0 new (fed_holds s p taken old r.0 h r.1) r.2)
+    (holds es (s ++ p) taken r.0 new (r.1 s taken h) r.2)
 holds (took b ∷ es) s taken old new h r =
     subst (λ (l : List (List ℕ)). Holds (s ++ stream es) l new) (append_assoc taken (b ∷ []) (bodies es))
-    (holds es s (taken ++ b ∷ []) r.0 new (took_holds s taken old r.0 b h r.1) r.2)
+    (holds es s (taken ++ b ∷ []) r.0 new (r.1 s taken h) r.2)
 
 pub from_empty : AnyCutting
 from_empty es new r = holds es [] [] (record { kept = []; over = None }) new start r where

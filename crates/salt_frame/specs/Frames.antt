@@ -7,6 +7,7 @@ use Rattle.std.specs.List.{flat_map, AllByRecursion}
 abbrev pub limit : ℕ
 limit = 1048576
 
+-- the frame of a body: the four bytes of its length, and the body
 abbrev pub frame : List ℕ → List ℕ
 frame body = to_be_bytes w32 (length body) ++ body
 
@@ -14,6 +15,7 @@ frame body = to_be_bytes w32 (length body) ++ body
 abbrev pub frames : List (List ℕ) → List ℕ
 frames bodies = flat_map frame bodies
 
+-- a body is within the limit
 abbrev pub IsBody : List ℕ → Type 0
 IsBody body = length body ≤ limit
 

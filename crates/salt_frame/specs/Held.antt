@@ -1,5 +1,5 @@
 -- What a buffer holds of a stream, and what each call makes of it.
-use Rattle.std.specs.Prelude.{◌≡◌, ℕ, List, ◌++◌, Option, Some, None, refl}
+use Rattle.std.specs.Prelude.{◌≡◌, ℕ, List, [], ◌∷◌, ◌++◌, Option, Some, None, refl}
 use Rattle.std.specs.Int.{w32, to_be_bytes}
 use Rattle.std.specs.Coded.{Coded, code_by, coded×, coded_ℕ, coded_list, coded_option}
 use Rattle.salt_frame.specs.Frames.{frame, frames, IsBody, Reads}
@@ -9,6 +9,7 @@ pub record Held : Type 0 where
   pub kept : List ℕ
   pub over : Option ℕ
 
+-- how contracts see it
 abbrev pub held_code : Coded Held
 held_code = code_by (List ℕ × Option ℕ) (coded× (coded_list coded_ℕ) (coded_option coded_ℕ)) (λ h. (h.kept, h.over)) (λ p. record { kept = p.0; over = p.1 }) (λ _. refl)
 
@@ -24,9 +25,19 @@ pub record Holds (stream : List ℕ) (taken : List (List ℕ)) (h : Held) : Type
   pub reads : Reads stream (taken ++ others) h.over rest
   pub kept : h.kept ≡ frames others ++ kept_of h.over rest
 
+-- of each stream of which the old holds what was not taken, the new does so once this piece came
+abbrev pub Feeds : Held → List ℕ → Held → Type 0
+Feeds old piece new = (stream : List ℕ) (taken : List (List ℕ)) → Holds stream taken old → Holds (stream ++ piece) taken new
+
+-- and once this body was taken
+abbrev pub Lends : Held → List ℕ → Held → Type 0
+Lends old body new = (stream : List ℕ) (taken : List (List ℕ)) → Holds stream taken old → Holds stream (taken ++ body ∷ []) new
+
 -- the body of the first frame is taken, or nothing
 pub record Takes (old : Held) (taken : Option (List ℕ)) (new : Held) : Type 0 where
   pub some : (body : List ℕ) → taken ≡ Some body → IsBody body × (old.kept ≡ frame body ++ new.kept) × (new.over ≡ old.over)
   pub none : taken ≡ None → new ≡ old
+  -- of each stream it is the next one
+  pub stream : (body : List ℕ) → taken ≡ Some body → Lends old body new
   -- a whole frame that is left is the one that is taken
   pub whole : (body more : List ℕ) → IsBody body → old.kept ≡ frame body ++ more → (taken ≡ Some body) × (new.kept ≡ more)

@@ -6,6 +6,7 @@ use Rattle.salt_frame.specs.Frames.{frames, limit, IsBody, IsPartial}
 use Rattle.salt_frame.specs.Held.{Held}
 use Rattle.salt_frame.specs.declared.buffer.FrameBuf.TheInside.{Inside}
 
+-- what a buffer's fields hold
 abbrev pub held : Inside → Held
 held a = record { kept = drop a.start a.bytes.items; over = a.over }
 
@@ -18,6 +19,7 @@ abbrev pub Tail : Option ℕ → List ℕ → Type 0
 Tail None rest = IsPartial rest
 Tail (Some n) rest = (limit < n) × (n < 2 ^ 32) × (rest ≡ to_be_bytes w32 n)
 
+-- the fields fit together: frames that were not taken, whole ones, and then the rest
 pub record IsInside (a : Inside) : Type 0 where
   pub ordered : a.start ≤ a.ready
   pub within : a.ready ≤ length a.bytes.items

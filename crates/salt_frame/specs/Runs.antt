@@ -1,17 +1,18 @@
 -- Every run of feeds and takings.
-use Rattle.std.specs.Prelude.{◌≡◌, ◌⊎◌, ℕ, List, [], ◌∷◌, ◌++◌, Some, None}
-use Rattle.salt_frame.specs.Held.{Held, Holds, Takes}
+use Rattle.std.specs.Prelude.{◌≡◌, ℕ, List, [], ◌∷◌, ◌++◌, None}
+use Rattle.salt_frame.specs.Held.{Held, Holds, Feeds, Lends}
 
 -- a feed that took its piece, or found a length over the limit; and a call of next that lent a body
 pub data Event : Type 0 where
   fed : List ℕ → Event
   took : List ℕ → Event
 
--- what the contracts say of each: a feed adds its piece, up to a length over the limit, or drops it after one
+-- what the contracts say of each
 abbrev pub Moves : Held → Event → Held → Type 0
-Moves old (fed piece) new = ((old.over ≡ None) × Holds (old.kept ++ piece) [] new) ⊎ ((n : ℕ) × (old.over ≡ Some n) × (new ≡ old))
-Moves old (took body) new = Takes old (Some body) new
+Moves old (fed piece) new = Feeds old piece new
+Moves old (took body) new = Lends old body new
 
+-- one after the other
 abbrev pub Runs : Held → List Event → Held → Type 0
 Runs old [] new = new ≡ old
 Runs old (e ∷ es) new = (mid : Held) × Moves old e mid × Runs mid es new

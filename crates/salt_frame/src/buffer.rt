@@ -3,7 +3,7 @@ ghost use Rattle.std.specs.Prelude.{◌≡◌, ◌⊎◌, ℕ, [], ◌++◌, len
 ghost use Rattle.std.specs.Option.{option_copied};
 ghost use Rattle.std.specs.Borrow.{sem, follows_so};
 ghost use Rattle.salt_frame.specs.Frames.{HasOver};
-ghost use Rattle.salt_frame.specs.Held.{Holds, Takes};
+ghost use Rattle.salt_frame.specs.Held.{Holds, Feeds, Takes};
 ghost use Rattle.salt_frame.specs.contracts.buffer.FrameBuf.{the_row};
 ghost use mathlib.Core.Option.{none};
 
@@ -60,8 +60,9 @@ impl FrameBuf {
     pub fn feed(&mut self, piece: &[u8]) -> Result<(), FeedFault>
         ensures ok { OnOk result ((self.old.over ≡ None) × (self.new ≡ record { kept = self.old.kept ++ piece.now; over = None }) × Holds (self.old.kept ++ piece.now) [] self.new) }
         ensures too_large { (n : ℕ) → IsErrOf result (FeedFault.TooLarge n) → self.old.over ≡ None → (self.new.over ≡ Some n) × Holds (self.old.kept ++ piece.now) [] self.new }
-        ensures exactly { (n : ℕ) → self.old.over ≡ None → HasOver n (self.old.kept ++ piece.now) → IsErrOf result (FeedFault.TooLarge n) ⊎ IsErrOf result FeedFault.NoMemory }
+        ensures complete { (n : ℕ) → self.old.over ≡ None → HasOver n (self.old.kept ++ piece.now) → IsErrOf result (FeedFault.TooLarge n) ⊎ IsErrOf result FeedFault.NoMemory }
         ensures again { (n : ℕ) → self.old.over ≡ Some n → IsErrOf result (FeedFault.TooLarge n) × (self.new ≡ self.old) }
+        ensures stream { IsErrOf result FeedFault.NoMemory ⊎ Feeds self.old piece.now self.new }
         ensures memory { IsErrOf result FeedFault.NoMemory → self.new ≡ self.old }
     {
         if let Some(length) = self.over {

@@ -1,3 +1,4 @@
+//! Why a feed fails.
 use thiserror::Error;
 
 /// Why a piece of a stream was not taken, or not whole.

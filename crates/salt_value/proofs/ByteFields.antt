@@ -11,7 +11,8 @@ use Rattle.salt_value.specs.declared.fault.Misread.TheVariants.{Short, NotUtf8, 
 use Rattle.salt_value.specs.Spelling.{text}
 use Rattle.salt_value.specs.Keys.{comes_after}
 use Rattle.salt_value.specs.WellFormed.{is_text, is_int, is_count}
-use Rattle.salt_value.specs.Decoding.{◌>>=◌, IsBytes, number_or, text_or, int_at, text_at, key_at}
+use Rattle.salt_value.specs.Readers.{◌>>=◌}
+use Rattle.salt_value.specs.Decoding.{IsBytes, number_or, text_or, int_at, text_at, key_at}
 use Rattle.salt_value.proofs.ReadLemmas.{bind_ok, guard_ok, guarded_ok, ok_is}
 use Rattle.salt_value.proofs.WriteLemmas.{both_true}
 

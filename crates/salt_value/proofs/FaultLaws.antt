@@ -4,21 +4,27 @@ use Rattle.std.specs.Int.{Width, w32, w64, byte_len, from_be_bytes, to_be_bytes,
 use Rattle.std.specs.Str.{is_utf8}
 use Rattle.std.proofs.lemmas.Bool.{ltb-true, ltb-false, lt-ltb, le-ltb, eqb-true, eqb-false, eq-eqb, ne_eqb}
 use Rattle.salt_value.specs.declared.fault.Misread.{Misread}
-use Rattle.salt_value.specs.declared.fault.Misread.TheVariants.{Short, Unsorted, NotUtf8, TooDeep}
+use Rattle.salt_value.specs.declared.fault.Misread.TheVariants.{Short, BadTag, Unsorted, NotUtf8, TooDeep}
 use Rattle.salt_value.specs.declared.value.Value.{Value}
 use Rattle.salt_value.specs.declared.value.Value.TheVariants as v
 use Rattle.salt_value.specs.Keys.{keys_of, last_key, comes_after}
 use Rattle.salt_value.specs.Spelling.{bytes, text, joined, pairs_joined, spelled_pairs}
 use Rattle.salt_value.specs.WellFormed.{well_formed, IsWellFormed, is_text, every, every_pair, depth, greatest, AllWellFormed, PairsWellFormed}
-use Rattle.salt_value.specs.Decoding.{◌>>=◌, IsBytes, Reader, count_at, number_or, text_or, int_at, text_at, room_at, key_at, several, pair_at, pairs_at, tagged, value_at, turned, read_at, Answers}
+use Rattle.salt_value.specs.Readers.{◌>>=◌, Reader, several, Answers}
+use Rattle.salt_value.specs.Decoding.{IsBytes, count_at, number_or, text_or, int_at, text_at, room_at, key_at, pair_at, pairs_at, value_at, from_front, read_at, after_tag}
 use Rattle.std.specs.Prelude.{IfErr, ◌≢◌, min}
 use Rattle.salt_value.specs.declared.fault.ValueFault.{ValueFault}
 use Rattle.salt_value.specs.declared.fault.ValueFault.TheVariants as faults
-use Rattle.salt_value.specs.FirstFault.{FirstFault, placed, Faults, IsCut, Counted, TextFault, KeyFault, ItemsFault, PairFault, PairsFault, TaggedFault, ValueFaults}
-use Rattle.salt_value.proofs.ReadLemmas.{guard_ok}
+use Rattle.salt_value.specs.FirstFault.{FirstFault, value_fault, Faults, IsCut, Counted, TextFault, KeyFault, ItemsFault, PairFault, PairsFault, TagFault, ValueFaults}
+use Rattle.salt_value.specs.Tags.{Tag, tag_of}
+use Rattle.salt_value.proofs.ReadLemmas.{tagged, tag_of-past, guard_ok}
 use Rattle.salt_value.proofs.WriteLemmas.{both_true, pairs_told}
 use Rattle.salt_value.proofs.ByteFields.{IsBytes-rest, IsBytes-take, wide32, number_takes, number_again, text_takes, text_again, key_takes, key_again, both}
 use Rattle.salt_value.proofs.ReadBack.{Took, value_takes, chain, chain_first, pair_takes, value_again, pair_again}
+
+-- what is wrong after a tag of this code
+abbrev TaggedFault : ℕ → Faults → ℕ → Faults
+TaggedFault d fault code b f = TagFault d fault (tag_of code) b f
 
 -- a step or the rest failed
 bind_err : {A B : Type 0} (r : Result A Misread) (g : A → Result B Misread) (f : Misread) → (r >>= g) ≡ Err f → (r ≡ Err f) ⊎ ((x : A) × (r ≡ Ok x) × (g x ≡ Err f))
@@ -45,7 +51,7 @@ above zero h = absurd (h refl)
 above (suc n) h = omega arith
 
 -- what a number counts
-counted_fails : {A : Type 0} (g : ℕ → Reader A) (fault : ℕ → Faults) (b : List ℕ) (f : Misread) → IsBytes b → ((n : ℕ) (rest : List ℕ) → IsBytes rest → b ≡ to_be_bytes w32 n ++ rest → g n rest ≡ Err f → fault n rest f)
+counted_fails : {A : Type 0} (g : ℕ → Reader Misread A) (fault : ℕ → Faults) (b : List ℕ) (f : Misread) → IsBytes b → ((n : ℕ) (rest : List ℕ) → IsBytes rest → b ≡ to_be_bytes w32 n ++ rest → g n rest ≡ Err f → fault n rest f)
     → (count_at b >>= λ n. g n.0 n.1) ≡ Err f → Counted fault b f
 counted_fails g fault b f fits inner e =
     elim (bind_err (count_at b) (λ n. g n.0 n.1) f e) [
@@ -112,7 +118,7 @@ last_of_none : (ps : List (List ℕ × Value)) → last_of None ps ≡ last_key 
 last_of_none [] = refl
 last_of_none (p ∷ ps) = last_of_is p ps
 
-module _ (d : ℕ) (item : Reader Value) (fault : Faults) (law : (b : List ℕ) (x : Value × List ℕ) → IsBytes b → item b ≡ Ok x → Took d b x)
+module _ (d : ℕ) (item : Reader Misread Value) (fault : Faults) (law : (b : List ℕ) (x : Value × List ℕ) → IsBytes b → item b ≡ Ok x → Took d b x)
     (fails : (b : List ℕ) (f : Misread) → IsBytes b → item b ≡ Err f → fault b f) where
   several_fails : (n : ℕ) (b : List ℕ) (f : Misread) → IsBytes b → several item n b ≡ Err f → ItemsFault d fault n b f
   unfolding several
@@ -190,7 +196,7 @@ module _ (d : ℕ) (item : Reader Value) (fault : Faults) (law : (b : List ℕ) 
         not_err e = cc
 
   tagged_fails : (tag : ℕ) (b : List ℕ) (f : Misread) → IsBytes b → tagged d item tag b ≡ Err f → TaggedFault d fault tag b f
-  unfolding tagged
+  unfolding after_tag
   tagged_fails zero b f fits e = absurd cc
   tagged_fails (suc zero) b f fits e = absurd cc
   tagged_fails (suc (suc zero)) b f fits e = absurd cc
@@ -206,7 +212,9 @@ module _ (d : ℕ) (item : Reader Value) (fault : Faults) (law : (b : List ℕ) 
       (λ n rest h parts g. elim (bind_err (pairs_at d item None n rest) (λ pairs. Ok (v.Map pairs.0, pairs.1)) f g) [ inl k ↦ whole n rest (pairs_fails n None rest f h k) | inr k ↦ absurd (ok_err k.2) ]) e where
         whole : (n : ℕ) (rest : List ℕ) → FaultFrom None n rest f → PairsFault d fault n rest f
         whole n rest i = (i.0, i.1, i.2, i.3, sym (chain_first (keys_of i.0)) ∙ i.4, i.5, i.6, subst (λ l. PairFault d fault l i.1 f) (last_of_none i.0) i.7)
-  tagged_fails (suc (suc (suc (suc (suc (suc (suc t))))))) b f fits e = cc
+  tagged_fails (suc (suc (suc (suc (suc (suc (suc t))))))) b f fits e =
+      let none : after_tag d item None b ≡ Err f = sym (ap (λ (t : Option Tag). after_tag d item t b) (tag_of-past t)) ∙ e in
+      subst (λ (t : Option Tag). TagFault d fault t b f) (sym (tag_of-past t)) cc
 
 pub value_fails : (d : ℕ) (b : List ℕ) (f : Misread) → IsBytes b → value_at d b ≡ Err f → ValueFaults d b f
 unfolding value_at ValueFaults
@@ -222,7 +230,7 @@ signed r = r >>= λ n. Ok (cast_signed w64 n.0, n.1)
 cut_is : (w : Width) (b : List ℕ) (f : Misread) → IsCut (byte_len w) b f → number_or w Short b ≡ Err f
 cut_is w b f h = ap (λ t. cond t (Err Short) (Ok (from_be_bytes w (take (byte_len w) b), drop (byte_len w) b))) (lt-ltb _ _ h.0) ∙ ap (λ e. Err e) (sym h.1)
 
-counted_is : {A : Type 0} (g : ℕ → Reader A) (fault : ℕ → Faults) (b : List ℕ) (f : Misread) → ((n : ℕ) (rest : List ℕ) → b ≡ to_be_bytes w32 n ++ rest → fault n rest f → g n rest ≡ Err f)
+counted_is : {A : Type 0} (g : ℕ → Reader Misread A) (fault : ℕ → Faults) (b : List ℕ) (f : Misread) → ((n : ℕ) (rest : List ℕ) → b ≡ to_be_bytes w32 n ++ rest → fault n rest f → g n rest ≡ Err f)
     → Counted fault b f → (count_at b >>= λ n. g n.0 n.1) ≡ Err f
 counted_is g fault b f inner (inl h) = ap (λ r. r >>= λ n. g n.0 n.1) (cut_is w32 b f h)
 counted_is g fault b f inner (inr h) =
@@ -247,7 +255,7 @@ key_is last b f (inr h) =
     ap (λ r. r >>= λ k. cond (comes_after last k.0) (Ok k) (Err (Unsorted (length b - 4)))) (ap text_at h.3 ∙ text_again key h.1 h.2)
     ∙ ap (λ t. cond t (Ok (key, h.1)) (Err (Unsorted (length b - 4)))) h.4 ∙ ap (λ n. Err (Unsorted n)) len ∙ ap (λ e. Err e) (sym h.5)
 
-module _ (d : ℕ) (item : Reader Value) (fault : Faults) (law : (w : Value) (rest : List ℕ) → IsWellFormed w → depth w ≤ d → item (bytes w ++ rest) ≡ Ok (w, rest))
+module _ (d : ℕ) (item : Reader Misread Value) (fault : Faults) (law : (w : Value) (rest : List ℕ) → IsWellFormed w → depth w ≤ d → item (bytes w ++ rest) ≡ Ok (w, rest))
     (stops : (b : List ℕ) (f : Misread) → fault b f → item b ≡ Err f) where
   several_is : (n : ℕ) (done : List Value) (rest : List ℕ) (f : Misread) → length done < n → AllWellFormed done → greatest (map depth done) ≤ d → fault rest f → several item n (joined (map bytes done) ++ rest) ≡ Err f
   unfolding several
@@ -285,7 +293,7 @@ module _ (d : ℕ) (item : Reader Value) (fault : Faults) (law : (w : Value) (re
       ∙ rw (pair_again d item law last p (pairs_joined (spelled_pairs ps) ++ rest) parts.0 after.0 more.0 (omega arith), pairs_are n (Some p.0) ps rest f (omega arith) more.1 after.1 (omega arith) e) refl
 
   tagged_is : (tag : ℕ) (b : List ℕ) (f : Misread) → TaggedFault d fault tag b f → tagged d item tag b ≡ Err f
-  unfolding tagged
+  unfolding after_tag
   tagged_is zero b f h = absurd h
   tagged_is (suc zero) b f h = absurd h
   tagged_is (suc (suc zero)) b f h = absurd h
@@ -298,7 +306,9 @@ module _ (d : ℕ) (item : Reader Value) (fault : Faults) (law : (w : Value) (re
       counted_is (λ n rest. pairs_at d item None n rest >>= λ pairs. Ok (v.Map pairs.0, pairs.1)) (PairsFault d fault) b f
       (λ n rest parts i. ap (λ r. r >>= λ pairs. Ok (v.Map pairs.0, pairs.1)) (ap (pairs_at d item None n) i.6
       ∙ pairs_are n None i.0 i.1 f i.2 i.3 (chain_first (keys_of i.0) ∙ i.4) i.5 (subst (λ l. PairFault d fault l i.1 f) (sym (last_of_none i.0)) i.7))) h
-  tagged_is (suc (suc (suc (suc (suc (suc (suc t))))))) b f h = ap (λ e. Err e) (sym h)
+  tagged_is (suc (suc (suc (suc (suc (suc (suc t))))))) b f h =
+      let none : f ≡ BadTag (suc (length b)) = subst (λ (t : Option Tag). TagFault d fault t b f) (tag_of-past t) h in
+      ap (λ (t : Option Tag). after_tag d item t b) (tag_of-past t) ∙ ap (λ e. Err e) (sym none)
 
 pub value_is : (d : ℕ) (b : List ℕ) (f : Misread) → ValueFaults d b f → value_at d b ≡ Err f
 unfolding value_at ValueFaults
@@ -308,26 +318,21 @@ value_is (suc d) (tag ∷ b) f h = tagged_is d (value_at d) (ValueFaults d) (val
 
 -- ---- the whole input
 
-turned_err : (n : ℕ) (r : Result (Value × List ℕ) Misread) (e : ValueFault) → turned n r ≡ Err e → (f : Misread) × (r ≡ Err f) × (e ≡ placed n (min n 65536) f)
-turned_err n (Ok x) e h = absurd cc
-turned_err n (Err f) e h = (f, refl, cc)
+from_front_err : (n : ℕ) (r : Result (Value × List ℕ) Misread) (e : ValueFault) → from_front n r ≡ Err e → (f : Misread) × (r ≡ Err f) × (e ≡ value_fault n (min n 65536) f)
+from_front_err n (Ok x) e h = absurd cc
+from_front_err n (Err f) e h = (f, refl, cc)
 
 first_of : (input : List ℕ) (e : ValueFault) → IsBytes input → read_at input ≡ Err e → FirstFault input e
 unfolding read_at
 first_of input e fits h =
-    let a = turned_err (length input) (value_at 32 (take 65536 input)) e h in
+    let a = from_front_err (length input) (value_at 32 (take 65536 input)) e h in
     (a.0, value_fails 32 (take 65536 input) a.0 (IsBytes-take 65536 input fits) a.1, a.2)
 
-pub is_first : (input : List ℕ) (r : Result (Value × ℕ) ValueFault) → IsBytes input → Answers r (read_at input) → IfErr r (λ e. e ≢ faults.NoMemory → FirstFault input e)
+pub is_first : (input : List ℕ) (r : Result (Value × ℕ) ValueFault) → IsBytes input → Answers faults.NoMemory r (read_at input) → IfErr r (λ e. e ≢ faults.NoMemory → FirstFault input e)
 is_first input (Ok x) fits h = tt
-is_first input (Err faults.NoMemory) fits h = λ ne. absurd (ne refl)
-is_first input (Err faults.Short) fits h = λ ne. first_of input faults.Short fits h
-is_first input (Err (faults.BadTag at)) fits h = λ ne. first_of input (faults.BadTag at) fits h
-is_first input (Err (faults.Unsorted at)) fits h = λ ne. first_of input (faults.Unsorted at) fits h
-is_first input (Err (faults.NotUtf8 at)) fits h = λ ne. first_of input (faults.NotUtf8 at) fits h
-is_first input (Err faults.TooDeep) fits h = λ ne. first_of input faults.TooDeep fits h
-is_first input (Err faults.TooLarge) fits h = λ ne. first_of input faults.TooLarge fits h
+is_first input (Err e) fits (inl h) = λ ne. absurd (ne h)
+is_first input (Err e) fits (inr h) = λ ne. first_of input e fits h
 
 pub is_met : (input : List ℕ) (e : ValueFault) → FirstFault input e → read_at input ≡ Err e
 unfolding read_at
-is_met input e h = ap (turned (length input)) (value_is 32 (take 65536 input) h.0 h.1) ∙ ap (λ g. Err g) (sym h.2)
+is_met input e h = ap (from_front (length input)) (value_is 32 (take 65536 input) h.0 h.1) ∙ ap (λ g. Err g) (sym h.2)

@@ -3,7 +3,8 @@ pub mod IdKept
 pub mod JidLaws
 pub mod KeyLemmas
 pub mod WriteLemmas
-pub mod LoopLemmas
+pub mod ReaderLoops
+pub mod PairLoops
 pub mod ReadLemmas
 pub mod ByteFields
 pub mod ReadBack

@@ -2,6 +2,7 @@
 use Rattle.std.proofs.Common.{◌≡◌, ℕ, ℤ, zero, suc, ◌^◌, ◌<◌, ◌≤◌, Bool, true, false, ◌&&◌, eqb, List, [], ◌∷◌, ◌++◌, length, map, Option, Some, None, Ok, refl, sym, ap, subst, ◌∙◌, append_assoc, arith}
 use Rattle.std.specs.Int.{w32, w64, to_be_bytes, cast_unsigned}
 use lib.ListN.{length-map}
+use Rattle.salt_value.specs.declared.fault.Misread.{Misread}
 use Rattle.salt_value.specs.declared.fault.Misread.TheVariants.{Short, TooDeep}
 use Rattle.salt_value.specs.declared.value.Value.{Value, roll-Value, out-Value, roll-out-Value, fold-roll-Value}
 use Rattle.salt_value.specs.declared.value.Value.TheFolds.{fold_out-Value, map-Value}
@@ -10,10 +11,12 @@ use Rattle.salt_value.specs.declared.value.Value.TheVariants as v
 use Rattle.salt_value.specs.declared.value.Value.TheVariants.{rolls-Null, rolls-Flag, rolls-Int, rolls-Str, rolls-List, rolls-Map}
 use Rattle.salt_value.specs.declared.value.Value.TheOpen.{Value-F}
 use Rattle.salt_value.specs.Keys.{keys_of, before, comes_after, ascends}
+use Rattle.salt_value.specs.Tags.{Tag}
 use Rattle.salt_value.specs.Spelling.{bytes, spelling_layer, text, joined, pairs_joined, spelled_pairs}
 use Rattle.salt_value.specs.WellFormed.{well_formed, well_formed_layer, every, every_pair, is_count, is_text, is_int, IsWellFormed, AllWellFormed, PairsWellFormed, depth, depth_layer, greatest}
-use Rattle.salt_value.specs.Decoding.{◌>>=◌, IsBytes, Reader, count_at, int_at, text_at, room_at, key_at, several, pair_at, pairs_at, tagged, value_at}
-use Rattle.salt_value.proofs.ReadLemmas.{bind_ok, guard_ok, ok_is}
+use Rattle.salt_value.specs.Readers.{◌>>=◌, Reader, several}
+use Rattle.salt_value.specs.Decoding.{IsBytes, count_at, int_at, text_at, room_at, key_at, pair_at, pairs_at, value_at, after_tag}
+use Rattle.salt_value.proofs.ReadLemmas.{tagged, tag_of-past, bind_ok, guard_ok, ok_is}
 use Rattle.salt_value.proofs.WriteLemmas.{both_true, pairs_told}
 use Rattle.salt_value.proofs.ByteFields.{IsBytes-rest, Takes, Takes-then, wide32, number_takes, number_again, is_count_of, count_of_is, both, text_takes, text_again, key_takes, key_again, int_takes, int_again}
 
@@ -104,7 +107,7 @@ pub chain_first : (ks : List (List ℕ)) → chain None ks ≡ ascends ks
 chain_first [] = refl
 chain_first (k ∷ ks) = chain_is k ks
 
-module _ (d : ℕ) (item : Reader Value) (law : (b : List ℕ) (x : Value × List ℕ) → IsBytes b → item b ≡ Ok x → Took d b x) where
+module _ (d : ℕ) (item : Reader Misread Value) (law : (b : List ℕ) (x : Value × List ℕ) → IsBytes b → item b ≡ Ok x → Took d b x) where
   several_takes : (n : ℕ) (b : List ℕ) (x : List Value × List ℕ) → IsBytes b → several item n b ≡ Ok x
       → Takes b (joined (map bytes x.0)) x.1 × (length x.0 ≡ n) × AllWellFormed x.0 × (greatest (map depth x.0) ≤ d)
   unfolding several
@@ -162,8 +165,8 @@ module _ (d : ℕ) (item : Reader Value) (law : (b : List ℕ) (x : Value × Lis
         omega (arith, first.4, second.4),
       )
 
-tagged_takes : (d : ℕ) (item : Reader Value) (law : (b : List ℕ) (x : Value × List ℕ) → IsBytes b → item b ≡ Ok x → Took d b x) (tag : ℕ) (b : List ℕ) (x : Value × List ℕ) → IsBytes b → tagged d item tag b ≡ Ok x → Took (suc d) (tag ∷ b) x
-unfolding tagged
+tagged_takes : (d : ℕ) (item : Reader Misread Value) (law : (b : List ℕ) (x : Value × List ℕ) → IsBytes b → item b ≡ Ok x → Took d b x) (tag : ℕ) (b : List ℕ) (x : Value × List ℕ) → IsBytes b → tagged d item tag b ≡ Ok x → Took (suc d) (tag ∷ b) x
+unfolding after_tag
 tagged_takes d item law zero b x fits e =
     subst (λ (y : Value × List ℕ). Took (suc d) (0 ∷ b) y) (ok_is (v.Null, b) x e) (one 0 b [] v.Null b bytes-Null (record { parts = refl; rest_fits = fits }), well_formed-Null, omega (arith, depth-Null))
 tagged_takes d item law (suc zero) b x fits e =
@@ -210,7 +213,8 @@ tagged_takes d item law (suc (suc (suc (suc (suc (suc zero)))))) b x fits e =
       well_formed-Map ps ∙ both (is_count (length ps)) (every_pair (pairs_told ps) && ascends (keys_of ps)) (is_count_of (length ps) small) (both (every_pair (pairs_told ps)) (ascends (keys_of ps)) t.2 ordered),
       omega (arith, depth-Map ps, t.4),
     )
-tagged_takes d item law (suc (suc (suc (suc (suc (suc (suc t))))))) b x fits e = absurd cc
+tagged_takes d item law (suc (suc (suc (suc (suc (suc (suc t))))))) b x fits e =
+    let none : after_tag d item None b ≡ Ok x = sym (ap (λ (t : Option Tag). after_tag d item t b) (tag_of-past t)) ∙ e in absurd cc
 
 pub value_takes : (d : ℕ) (b : List ℕ) (x : Value × List ℕ) → IsBytes b → value_at d b ≡ Ok x → Took d b x
 unfolding value_at
@@ -235,7 +239,7 @@ positive_step (Value-F.Map ps) = omega arith
 pub positive : (w : Value) → 1 ≤ depth w
 positive w = rw (fold_out-Value ℕ depth_layer w) (positive_step (map-Value _ _ depth (out-Value w)))
 
-module _ (d : ℕ) (item : Reader Value) (law : (w : Value) (rest : List ℕ) → IsWellFormed w → depth w ≤ d → item (bytes w ++ rest) ≡ Ok (w, rest)) where
+module _ (d : ℕ) (item : Reader Misread Value) (law : (w : Value) (rest : List ℕ) → IsWellFormed w → depth w ≤ d → item (bytes w ++ rest) ≡ Ok (w, rest)) where
   several_again : (ws : List Value) (rest : List ℕ) → AllWellFormed ws → greatest (map depth ws) ≤ d → several item (length ws) (joined (map bytes ws) ++ rest) ≡ Ok (ws, rest)
   unfolding several
   several_again [] rest h deep = refl
@@ -273,24 +277,24 @@ module _ (d : ℕ) (law : (w : Value) (rest : List ℕ) → IsWellFormed w → d
   at_tag w tag body rest e h = ap (λ l. value_at (suc d) (l ++ rest)) e ∙ h
 
   again_Null : Again d v.Null
-  unfolding tagged
+  unfolding after_tag
   again_Null rest h deep = at_tag v.Null 0 [] rest bytes-Null refl
 
   again_Flag : (b : Bool) → Again d (v.Flag b)
-  unfolding tagged
+  unfolding after_tag
   again_Flag false rest h deep = at_tag (v.Flag false) 1 [] rest (bytes-Flag false) refl
   again_Flag true rest h deep = at_tag (v.Flag true) 2 [] rest (bytes-Flag true) refl
 
   again_Int : (z : ℤ) → Again d (v.Int z)
-  unfolding tagged
+  unfolding after_tag
   again_Int z rest h deep = at_tag (v.Int z) 3 (to_be_bytes w64 (cast_unsigned w64 z)) rest (bytes-Int z) (ap (λ r. r >>= λ x. Ok (v.Int x.0, x.1)) (int_again z rest (sym (well_formed-Int z) ∙ h)))
 
   again_Str : (t : List ℕ) → Again d (v.Str t)
-  unfolding tagged
+  unfolding after_tag
   again_Str t rest h deep = at_tag (v.Str t) 4 (text t) rest (bytes-Str t) (ap (λ r. r >>= λ x. Ok (v.Str x.0, x.1)) (text_again t rest (sym (well_formed-Str t) ∙ h)))
 
   again_List : (ws : List Value) → Again d (v.List ws)
-  unfolding tagged
+  unfolding after_tag
   again_List ws rest h deep =
       let parts = both_true (is_count (length ws)) (every (map well_formed ws)) (sym (well_formed-List ws) ∙ h) in
       at_tag (v.List ws) 5 (to_be_bytes w32 (length ws) ++ joined (map bytes ws)) rest (bytes-List ws)
@@ -298,7 +302,7 @@ module _ (d : ℕ) (law : (w : Value) (rest : List ℕ) → IsWellFormed w → d
       ∙ rw (number_again w32 (2 ^ 32) wide32 Short (length ws) (joined (map bytes ws) ++ rest) (count_of_is (length ws) parts.0), several_again d (value_at d) law ws rest parts.1 (omega (arith, depth-List ws))) refl)
 
   again_Map : (ps : List (List ℕ × Value)) → Again d (v.Map ps)
-  unfolding tagged
+  unfolding after_tag
   again_Map ps rest h deep =
       let parts = both_true (is_count (length ps)) (every_pair (pairs_told ps) && ascends (keys_of ps)) (sym (well_formed-Map ps) ∙ h) in
       let more = both_true (every_pair (pairs_told ps)) (ascends (keys_of ps)) parts.1 in

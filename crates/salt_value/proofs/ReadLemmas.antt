@@ -1,9 +1,28 @@
 -- Reading a value, step by step.
-use Rattle.std.proofs.Common.{◌≡◌, ℕ, suc, ◌-◌, ◌≤◌, ◌<◌, Bool, true, false, cond, List, [], ◌∷◌, length, get_or, take, drop, sym, ◌∙◌, Option, Result, Ok, Err, refl, ap, subst, arith}
+use Rattle.std.proofs.Common.{◌≡◌, ℕ, suc, ◌-◌, ◌≤◌, ◌<◌, Bool, true, false, cond, eqb, List, [], ◌∷◌, length, get_or, take, drop, sym, ◌∙◌, Option, None, Result, Ok, Err, refl, ap, subst, arith}
 use Rattle.std.proofs.lemmas.List.{take_all}
+use Rattle.std.proofs.lemmas.Bool.{ne_eqb}
 use Rattle.salt_value.specs.Keys.{comes_after}
+use Rattle.salt_value.specs.Tags.{tag_of}
+use Rattle.salt_value.specs.declared.value.Value.{Value}
+use Rattle.salt_value.specs.declared.fault.Misread.{Misread}
 use Rattle.salt_value.specs.declared.fault.Misread.TheVariants.{Short, TooDeep, Unsorted}
-use Rattle.salt_value.specs.Decoding.{◌>>=◌, Reader, text_at, key_at, room_at, pair_at, tagged, value_at}
+use Rattle.salt_value.specs.Readers.{◌>>=◌, Reader}
+use Rattle.salt_value.specs.Decoding.{text_at, key_at, room_at, pair_at, value_at, after_tag}
+
+-- what stands after a tag of this code
+abbrev pub tagged : ℕ → Reader Misread Value → ℕ → Reader Misread Value
+tagged d item code bytes = after_tag d item (tag_of code) bytes
+
+other : (code k : ℕ) → k < code → eqb code k ≡ false
+other code k h = ne_eqb code k (λ e. omega (arith, e, h))
+
+-- no tag has a code past the table
+pub tag_of-past : (t : ℕ) → tag_of (suc (suc (suc (suc (suc (suc (suc t))))))) ≡ None
+tag_of-past t = past (suc (suc (suc (suc (suc (suc (suc t))))))) (omega arith) where
+  past : (code : ℕ) → 6 < code → tag_of code ≡ None
+  past code h =
+      rw (other code 0 (omega arith), other code 1 (omega arith), other code 2 (omega arith), other code 3 (omega arith), other code 4 (omega arith), other code 5 (omega arith), other code 6 h) refl
 
 pub value_at-none : (n : ℕ) (bytes : List ℕ) → n ≡ 0 → value_at n bytes ≡ Err TooDeep
 unfolding value_at
@@ -47,7 +66,7 @@ key_after last bytes k e =
     subst (λ (x : List ℕ × List ℕ). comes_after last x.0 ≡ true) g.1 g.0
 
 -- the key of a pair that is read stands after the one before it
-pub pair_after : {A : Type 0} (d : ℕ) (item : Reader A) (last : Option (List ℕ)) (bytes : List ℕ) (x : (List ℕ × A) × List ℕ) → pair_at d item last bytes ≡ Ok x → comes_after last x.0.0 ≡ true
+pub pair_after : {A : Type 0} (d : ℕ) (item : Reader Misread A) (last : Option (List ℕ)) (bytes : List ℕ) (x : (List ℕ × A) × List ℕ) → pair_at d item last bytes ≡ Ok x → comes_after last x.0.0 ≡ true
 unfolding pair_at
 pair_after {A} d item last bytes x e =
     let a = bind_ok (room_at d bytes) (λ room. key_at last room.1 >>= λ key. item key.1 >>= λ value. Ok ((key.0, value.0), value.1)) x e in

@@ -3,19 +3,16 @@ use Rattle.std.specs.Prelude.{◌≡◌, ℕ, ℤ, zero, suc, ◌-◌, ◌<◌, 
 use Rattle.std.specs.Str.{is_utf8}
 use Rattle.std.specs.Int.{Width, w32, w64, byte_len, from_be_bytes, cast_signed}
 use Rattle.salt_value.specs.declared.fault.Misread.{Misread}
-use Rattle.salt_value.specs.declared.fault.Misread.TheVariants.{NoMemory, Short, BadTag, Unsorted, NotUtf8, TooDeep}
+use Rattle.salt_value.specs.declared.fault.Misread.TheVariants.{Short, BadTag, Unsorted, NotUtf8, TooDeep}
 use Rattle.salt_value.specs.declared.fault.ValueFault.{ValueFault}
-use Rattle.salt_value.specs.declared.fault.ValueFault.TheVariants as faults
 use Rattle.salt_value.specs.declared.value.Value.{Value}
 use Rattle.salt_value.specs.declared.value.Value.TheVariants as v
 use Rattle.salt_value.specs.Keys.{comes_after}
-use Rattle.salt_value.specs.FirstFault.{most_bytes, placed}
-
--- one step, and then the next one on what it gave
-infixl 10 ◌>>=◌
-abbrev pub ◌>>=◌ : {A B F : Type 0} → Result A F → (A → Result B F) → Result B F
-(Ok x) >>= f = f x
-(Err e) >>= f = Err e
+use Rattle.salt_value.specs.Limits.{most_value_levels, most_value_bytes}
+use Rattle.salt_value.specs.Tags as tag
+use Rattle.salt_value.specs.Tags.{Tag, tag_of}
+use Rattle.salt_value.specs.Readers.{Reader, ◌>>=◌, several}
+use Rattle.salt_value.specs.FirstFault.{value_fault}
 
 -- each of the numbers is a byte
 abbrev pub IsBytes : List ℕ → Type 0
@@ -40,58 +37,32 @@ Returns view (Err e) read = read ≡ Err e
 
 -- ---- values. Places are counted from the end: a place is the number of bytes from there on
 
--- a function returned this fault: decoding gives it, unless memory ran out
-abbrev pub Fails : {Y : Type 0} → Misread → Result Y Misread → Type 0
-Fails NoMemory read = Unit {0}
-Fails Short read = read ≡ Err Short
-Fails (BadTag n) read = read ≡ Err (BadTag n)
-Fails (Unsorted n) read = read ≡ Err (Unsorted n)
-Fails (NotUtf8 n) read = read ≡ Err (NotUtf8 n)
-Fails TooDeep read = read ≡ Err TooDeep
-
--- a function returned, seen by view, what decoding gives, unless memory ran out
-abbrev pub Gives : {X Y : Type 0} → (X → Y) → Result X Misread → Result Y Misread → Type 0
-Gives view (Ok x) read = read ≡ Ok (view x)
-Gives view (Err e) read = Fails e read
-
--- something at the front of some bytes, and the bytes after it
-abbrev pub Reader : Type 0 → Type 0
-Reader A = List ℕ → Result (A × List ℕ) Misread
-
 -- a number of 32 bits
-abbrev pub count_at : Reader ℕ
+abbrev pub count_at : Reader Misread ℕ
 count_at = number_or w32 Short
 
 -- a number of 64 bits in two's complement
-abbrev pub int_at : Reader ℤ
+abbrev pub int_at : Reader Misread ℤ
 int_at bytes = do
   n ← number_or w64 Short bytes
   Ok (cast_signed w64 n.0, n.1)
 
 -- a text, whose fault is at its first byte after the length
-abbrev pub text_at : Reader (List ℕ)
+abbrev pub text_at : Reader Misread (List ℕ)
 text_at bytes = text_or Short (NotUtf8 (length bytes - 4)) bytes
 
 -- a key that stands after the one before it
-unfoldable pub key_at : Option (List ℕ) → Reader (List ℕ)
+unfoldable pub key_at : Option (List ℕ) → Reader Misread (List ℕ)
 key_at last bytes = do
   key ← text_at bytes
   if comes_after last key.0 then Ok key else Err (Unsorted (length bytes - 4))
 
 -- no member has room on the last level
-abbrev pub room_at : ℕ → Reader (Unit {0})
+abbrev pub room_at : ℕ → Reader Misread (Unit {0})
 room_at d bytes = if d == 0 then Err TooDeep else Ok (tt, bytes)
 
--- so many of them, one after the other
-unfoldable pub several : {A : Type 0} → Reader A → ℕ → Reader (List A)
-several item zero bytes = Ok ([], bytes)
-several item (suc n) bytes = do
-  first ← item bytes
-  others ← several item n first.1
-  Ok (first.0 ∷ others.0, others.1)
-
 -- a key and its value
-unfoldable pub pair_at : {A : Type 0} → ℕ → Reader A → Option (List ℕ) → Reader (List ℕ × A)
+unfoldable pub pair_at : {A : Type 0} → ℕ → Reader Misread A → Option (List ℕ) → Reader Misread (List ℕ × A)
 pair_at d item last bytes = do
   room ← room_at d bytes
   key ← key_at last room.1
@@ -99,53 +70,47 @@ pair_at d item last bytes = do
   Ok ((key.0, value.0), value.1)
 
 -- so many pairs, each key after the one before it
-unfoldable pub pairs_at : {A : Type 0} → ℕ → Reader A → Option (List ℕ) → ℕ → Reader (List (List ℕ × A))
+unfoldable pub pairs_at : {A : Type 0} → ℕ → Reader Misread A → Option (List ℕ) → ℕ → Reader Misread (List (List ℕ × A))
 pairs_at d item last zero bytes = Ok ([], bytes)
 pairs_at d item last (suc n) bytes = do
   first ← pair_at d item last bytes
   others ← pairs_at d item (Some first.0.0) n first.1
   Ok (first.0 ∷ others.0, others.1)
 
--- what stands after the tag of a value that may have d levels below its own
-unfoldable pub tagged : ℕ → Reader Value → ℕ → Reader Value
-tagged d item zero bytes = Ok (v.Null, bytes)
-tagged d item (suc zero) bytes = Ok (v.Flag false, bytes)
-tagged d item (suc (suc zero)) bytes = Ok (v.Flag true, bytes)
-tagged d item (suc (suc (suc zero))) bytes = do
+-- what stands after a tag of a value that may have d levels below its own
+unfoldable pub after_tag : ℕ → Reader Misread Value → Option Tag → Reader Misread Value
+after_tag d item (Some tag.Null) bytes = Ok (v.Null, bytes)
+after_tag d item (Some tag.False) bytes = Ok (v.Flag false, bytes)
+after_tag d item (Some tag.True) bytes = Ok (v.Flag true, bytes)
+after_tag d item (Some tag.Int) bytes = do
   z ← int_at bytes
   Ok (v.Int z.0, z.1)
-tagged d item (suc (suc (suc (suc zero)))) bytes = do
+after_tag d item (Some tag.Str) bytes = do
   t ← text_at bytes
   Ok (v.Str t.0, t.1)
-tagged d item (suc (suc (suc (suc (suc zero))))) bytes = do
+after_tag d item (Some tag.List) bytes = do
   n ← count_at bytes
   items ← several item n.0 n.1
   Ok (v.List items.0, items.1)
-tagged d item (suc (suc (suc (suc (suc (suc zero)))))) bytes = do
+after_tag d item (Some tag.Map) bytes = do
   n ← count_at bytes
   pairs ← pairs_at d item None n.0 n.1
   Ok (v.Map pairs.0, pairs.1)
-tagged d item (suc (suc (suc (suc (suc (suc (suc t))))))) bytes = Err (BadTag (suc (length bytes)))
+after_tag d item None bytes = Err (BadTag (suc (length bytes)))
 
 -- a value that may have so many levels
-unfoldable pub value_at : ℕ → Reader Value
+unfoldable pub value_at : ℕ → Reader Misread Value
 value_at zero bytes = Err TooDeep
 value_at (suc d) [] = Err Short
-value_at (suc d) (tag ∷ bytes) = tagged d (value_at d) tag bytes
+value_at (suc d) (code ∷ bytes) = after_tag d (value_at d) (tag_of code) bytes
 
 -- ---- a whole input, with places counted from its front
 
 -- a value and how many bytes it takes, or the fault by its place
-abbrev pub turned : ℕ → Result (Value × List ℕ) Misread → Result (Value × ℕ) ValueFault
-turned n (Ok x) = Ok (x.0, min n most_bytes - length x.1)
-turned n (Err e) = Err (placed n (min n most_bytes) e)
+abbrev pub from_front : ℕ → Result (Value × List ℕ) Misread → Result (Value × ℕ) ValueFault
+from_front n (Ok x) = Ok (x.0, min n most_value_bytes - length x.1)
+from_front n (Err e) = Err (value_fault n (min n most_value_bytes) e)
 
 -- the value that begins an input and how many bytes it takes, or the first fault of its first 65,536 bytes
 unfoldable pub read_at : List ℕ → Result (Value × ℕ) ValueFault
-read_at input = turned (length input) (value_at 32 (take most_bytes input))
-
--- a function returned what decoding gives, unless memory ran out
-abbrev pub Answers : Result (Value × ℕ) ValueFault → Result (Value × ℕ) ValueFault → Type 0
-Answers (Ok x) read = read ≡ Ok x
-Answers (Err faults.NoMemory) read = Unit {0}
-Answers (Err e) read = read ≡ Err e
+read_at input = from_front (length input) (value_at most_value_levels (take most_value_bytes input))

@@ -1,5 +1,5 @@
 -- The first fault from the left of bytes that begin with no value: whole parts, and then a part that has the fault.
-use Rattle.std.specs.Prelude.{◌≡◌, ◌⊎◌, ◌<◌, ◌≤◌, ◌^◌, ◌+◌, ◌-◌, nat_lt, if◌then◌else◌, ℕ, zero, suc, true, false, List, [], ◌∷◌, ◌++◌, length, take, min, map, Option}
+use Rattle.std.specs.Prelude.{◌≡◌, ◌⊎◌, ◌<◌, ◌≤◌, ◌^◌, ◌+◌, ◌-◌, nat_lt, if◌then◌else◌, ℕ, zero, suc, true, false, List, [], ◌∷◌, ◌++◌, length, take, min, map, Option, Some, None}
 use Rattle.std.specs.Str.{is_utf8}
 use Rattle.std.specs.Int.{w32, to_be_bytes}
 use Rattle.salt_value.specs.declared.fault.Misread.{Misread}
@@ -7,6 +7,9 @@ use Rattle.salt_value.specs.declared.fault.Misread.TheVariants.{NoMemory, Short,
 use Rattle.salt_value.specs.declared.value.Value.{Value}
 use Rattle.salt_value.specs.declared.fault.ValueFault.{ValueFault}
 use Rattle.salt_value.specs.declared.fault.ValueFault.TheVariants as faults
+use Rattle.salt_value.specs.Limits.{most_value_levels, most_value_bytes}
+use Rattle.salt_value.specs.Tags as tag
+use Rattle.salt_value.specs.Tags.{Tag, tag_of}
 use Rattle.salt_value.specs.Keys.{keys_of, last_key, comes_after, Ascend}
 use Rattle.salt_value.specs.Spelling.{bytes, text, joined, pairs_joined, spelled_pairs}
 use Rattle.salt_value.specs.WellFormed.{is_text, depth, greatest, AllWellFormed, PairsWellFormed}
@@ -49,35 +52,31 @@ module _ (d : ℕ) (fault : Faults) where
       × (greatest (map (λ (p : List ℕ × Value). depth p.1) done) ≤ d) × (b ≡ pairs_joined (spelled_pairs done) ++ rest) × PairFault (last_key done) rest f
 
   -- after a tag, by cases on the tag
-  abbrev pub TaggedFault : ℕ → Faults
-  TaggedFault zero b f = ⊥
-  TaggedFault (suc zero) b f = ⊥
-  TaggedFault (suc (suc zero)) b f = ⊥
-  TaggedFault (suc (suc (suc zero))) b f = IsCut 8 b f
-  TaggedFault (suc (suc (suc (suc zero)))) b f = TextFault b f
-  TaggedFault (suc (suc (suc (suc (suc zero))))) b f = Counted ItemsFault b f
-  TaggedFault (suc (suc (suc (suc (suc (suc zero)))))) b f = Counted PairsFault b f
-  TaggedFault (suc (suc (suc (suc (suc (suc (suc t))))))) b f = f ≡ BadTag (suc (length b))
+  abbrev pub TagFault : Option Tag → Faults
+  TagFault (Some tag.Null) b f = ⊥
+  TagFault (Some tag.False) b f = ⊥
+  TagFault (Some tag.True) b f = ⊥
+  TagFault (Some tag.Int) b f = IsCut 8 b f
+  TagFault (Some tag.Str) b f = TextFault b f
+  TagFault (Some tag.List) b f = Counted ItemsFault b f
+  TagFault (Some tag.Map) b f = Counted PairsFault b f
+  TagFault None b f = f ≡ BadTag (suc (length b))
 
 -- in a value that may have so many levels
 unfoldable pub ValueFaults : ℕ → Faults
 ValueFaults zero b f = f ≡ TooDeep
 ValueFaults (suc d) [] f = f ≡ Short
-ValueFaults (suc d) (tag ∷ b) f = TaggedFault d (ValueFaults d) tag b f
-
--- the bytes of the longest value
-abbrev pub most_bytes : ℕ
-most_bytes = 65536
+ValueFaults (suc d) (code ∷ b) f = TagFault d (ValueFaults d) (tag_of code) b f
 
 -- a fault of an input of n bytes, of which so many were looked at, by its place from the front
-abbrev pub placed : ℕ → ℕ → Misread → ValueFault
-placed n seen NoMemory = faults.NoMemory
-placed n seen Short = if nat_lt n most_bytes then faults.Short else faults.TooLarge
-placed n seen (BadTag left) = faults.BadTag (seen - left)
-placed n seen (Unsorted left) = faults.Unsorted (seen - left)
-placed n seen (NotUtf8 left) = faults.NotUtf8 (seen - left)
-placed n seen TooDeep = faults.TooDeep
+abbrev pub value_fault : ℕ → ℕ → Misread → ValueFault
+value_fault n seen NoMemory = faults.NoMemory
+value_fault n seen Short = if nat_lt n most_value_bytes then faults.Short else faults.TooLarge
+value_fault n seen (BadTag left) = faults.BadTag (seen - left)
+value_fault n seen (Unsorted left) = faults.Unsorted (seen - left)
+value_fault n seen (NotUtf8 left) = faults.NotUtf8 (seen - left)
+value_fault n seen TooDeep = faults.TooDeep
 
 -- the first fault of an input, of which the first 65,536 bytes alone are looked at
 abbrev pub FirstFault : List ℕ → ValueFault → Type 0
-FirstFault input e = (f : Misread) × ValueFaults 32 (take most_bytes input) f × (e ≡ placed (length input) (min (length input) most_bytes) f)
+FirstFault input e = (f : Misread) × ValueFaults most_value_levels (take most_value_bytes input) f × (e ≡ value_fault (length input) (min (length input) most_value_bytes) f)

@@ -1,4 +1,4 @@
-pub mod Reading
+pub mod Limits
 pub mod Id
 pub mod IdFields
 pub mod IdLaws
@@ -9,9 +9,12 @@ pub mod Told
 pub mod Keys
 pub mod Scalar
 pub mod Child
+pub mod Tags
 pub mod Spelling
 pub mod WellFormed
 pub mod Room
+pub mod Reading
+pub mod Readers
 pub mod Decoding
 pub mod FirstFault
 pub mod formers

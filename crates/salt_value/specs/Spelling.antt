@@ -1,6 +1,8 @@
 -- The one spelling of each value as bytes, by cases on the value.
 use Rattle.std.specs.Prelude.{ℕ, true, false, List, [], ◌∷◌, ◌++◌, length, map}
 use Rattle.std.specs.Int.{w32, w64, to_be_bytes, cast_unsigned}
+use Rattle.salt_value.specs.Tags as tag
+use Rattle.salt_value.specs.Tags.{code_of}
 use Rattle.salt_value.specs.declared.value.Value.{Value, fold-Value}
 use Rattle.salt_value.specs.declared.value.Value.TheOpen.{Value-F}
 
@@ -20,13 +22,13 @@ pairs_joined (p ∷ ps) = text p.0 ++ (p.1 ++ pairs_joined ps)
 
 -- one layer of a value, with the bytes of each member in the member's place
 abbrev pub spelling_layer : Value-F (List ℕ) → List ℕ
-spelling_layer Value-F.Null = 0 ∷ []
-spelling_layer (Value-F.Flag false) = 1 ∷ []
-spelling_layer (Value-F.Flag true) = 2 ∷ []
-spelling_layer (Value-F.Int z) = 3 ∷ to_be_bytes w64 (cast_unsigned w64 z)
-spelling_layer (Value-F.Str t) = 4 ∷ text t
-spelling_layer (Value-F.List xs) = 5 ∷ (to_be_bytes w32 (length xs) ++ joined xs)
-spelling_layer (Value-F.Map ps) = 6 ∷ (to_be_bytes w32 (length ps) ++ pairs_joined ps)
+spelling_layer Value-F.Null = code_of tag.Null ∷ []
+spelling_layer (Value-F.Flag false) = code_of tag.False ∷ []
+spelling_layer (Value-F.Flag true) = code_of tag.True ∷ []
+spelling_layer (Value-F.Int z) = code_of tag.Int ∷ to_be_bytes w64 (cast_unsigned w64 z)
+spelling_layer (Value-F.Str t) = code_of tag.Str ∷ text t
+spelling_layer (Value-F.List xs) = code_of tag.List ∷ (to_be_bytes w32 (length xs) ++ joined xs)
+spelling_layer (Value-F.Map ps) = code_of tag.Map ∷ (to_be_bytes w32 (length ps) ++ pairs_joined ps)
 
 -- the spelling of a value
 abbrev pub bytes : Value → List ℕ

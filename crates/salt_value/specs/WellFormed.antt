@@ -4,6 +4,7 @@ use Rattle.std.specs.Str.{is_utf8}
 use Rattle.salt_value.specs.declared.value.Value.{Value, fold-Value}
 use Rattle.salt_value.specs.declared.value.Value.TheOpen.{Value-F}
 use Rattle.salt_value.specs.Keys.{keys_of, ascends}
+use Rattle.salt_value.specs.Limits.{most_value_levels, most_value_bytes}
 use Rattle.salt_value.specs.Spelling.{bytes}
 
 -- all of these hold
@@ -72,8 +73,8 @@ depth_layer (Value-F.Map ps) = suc (greatest (map (λ p. p.1) ps))
 abbrev pub depth : Value → ℕ
 depth = fold-Value ℕ depth_layer
 
--- the value is well-formed and within the limits: depth 32 and 65,536 bytes
-pub record Fits (v : Value) : Type 0 where
-  pub deep : depth v ≤ 32
-  pub long : length (bytes v) ≤ 65536
+-- the value is well-formed and within the limits of depth and bytes
+pub record ValueFits (v : Value) : Type 0 where
+  pub deep : depth v ≤ most_value_levels
+  pub long : length (bytes v) ≤ most_value_bytes
   pub well_formed : IsWellFormed v

@@ -1,4 +1,4 @@
-// Numbers and texts as bytes.
+//! Numbers and texts as bytes.
 ghost use Rattle.std.specs.Prelude.{◌≡◌, ◌<◌, ◌^◌, ◌++◌, List, ℕ, length, true, false, MatchOption, OnOk, OnErr};
 ghost use Rattle.std.specs.Int.{w8, w16, w32, w64, to_be_bytes};
 ghost use Rattle.std.specs.Str.{is_utf8};
@@ -110,13 +110,29 @@ pub fn put_u64(out: &mut Vec<u8>, number: u64) -> Result<(), AllocError>
     out.extend_from_slice(&bytes)
 }
 
-/// Appends a text after the 4 bytes of its length. After an error some of these bytes may stand at
-/// the end of `out`.
-pub fn put_text(out: &mut Vec<u8>, text: &[u8]) -> Result<(), AllocError>
+// Appends a text after the 4 bytes of its length. After an error some of these bytes may stand at
+// the end.
+fn put_parts(out: &mut Vec<u8>, text: &[u8]) -> Result<(), AllocError>
     requires { length text.now < 2 ^ 32 }
     ensures ok { OnOk result (out.new.items ≡ out.old.items ++ spelling.text text.now) }
     ensures err { OnErr result ((more : List ℕ) × (out.new.items ≡ out.old.items ++ more)) }
 {
     put_u32(out, text.len() as u32)?;
     out.extend_from_slice(text)
+}
+
+/// Appends a text after the 4 bytes of its length. An error leaves all as it was.
+pub fn put_text(out: &mut Vec<u8>, text: &[u8]) -> Result<(), AllocError>
+    requires { length text.now < 2 ^ 32 }
+    ensures ok { OnOk result (out.new.items ≡ out.old.items ++ spelling.text text.now) }
+    ensures err { OnErr result (out.new.items ≡ out.old.items) }
+{
+    let before = out.len();
+    match put_parts(out, text) {
+        Ok(()) => Ok(()),
+        Err(e) => {
+            out.truncate(before);
+            Err(e)
+        }
+    }
 }

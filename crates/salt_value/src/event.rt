@@ -1,4 +1,4 @@
-// What minions and masters tell of themselves.
+//! What minions and masters tell of themselves.
 ghost use Rattle.std.specs.Prelude.{◌≡◌, IfOk};
 
 use crate::value::Value;

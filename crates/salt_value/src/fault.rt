@@ -1,4 +1,4 @@
-// Why bytes are no value.
+//! Why bytes are no value.
 ghost use Rattle.std.specs.Prelude.{◌≡◌};
 ghost use Rattle.salt_value.specs.declared.fault.Misread.TheVariants.{NoMemory};
 

@@ -1,3 +1,4 @@
+//! Pairs in the order of their keys.
 ghost use Rattle.std.specs.Prelude.{◌≡◌, [], ◌∷◌, ◌++◌, length, true, OnOk, OnErr};
 ghost use Rattle.std.specs.Option.{option_copied};
 ghost use Rattle.salt_value.specs.Keys.{Ascend, keys_of, last_key, comes_after, under};

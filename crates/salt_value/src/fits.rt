@@ -1,4 +1,4 @@
-// Whether a value is within the limits of its bytes.
+//! Whether a value is within the limits of its bytes.
 ghost use Rattle.std.specs.Prelude.{◌≡◌, ◌≤◌, ◌+◌, ◌++◌, ◌&&◌, true, length, map};
 ghost use Rattle.salt_value.specs.Spelling as spelling;
 ghost use Rattle.salt_value.specs.Spelling.{bytes, joined, pairs_joined, spelled_pairs};

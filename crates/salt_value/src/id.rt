@@ -1,3 +1,4 @@
+//! Places and ids of nodes.
 ghost use Rattle.std.specs.Prelude.{◌≡◌, ◌≤◌, ◌-◌, ◌++◌, length, not, position, replicate, refl, nat_eq, Some, IsOk, IfOk, IfErr};
 ghost use Rattle.std.proofs.Common.{rules};
 ghost use Rattle.std.specs.Str.{bytes_eq};
@@ -7,7 +8,9 @@ ghost use Rattle.std.specs.Cmp.Rules.{hashing};
 ghost use Rattle.std.specs.Cmp.Lexicographic.{slice_cmp, nat_list_eq_equiv, nat_list_cmp_total, texts_ties, texts_po};
 ghost use Rattle.std.specs.Hash as fed;
 ghost use Rattle.salt_value.specs.Id as spec;
+ghost use Rattle.salt_value.specs.Limits.{most_id_bytes};
 
+use crate::limits::MOST_ID_BYTES;
 use std::cmp::Ordering;
 use std::fmt;
 use std::hash::{Hash, Hasher};
@@ -63,7 +66,7 @@ impl NodeId {
 /// Its bytes stand inline, so that it takes no memory. Contracts see its bytes.
 #[derive(Clone, Copy)]
 pub struct MinionId {
-    bytes: [u8; 64],
+    bytes: [u8; MOST_ID_BYTES],
     len: u8,
 }
 
@@ -119,11 +122,11 @@ fn first_bad(text: &[u8]) -> Option<usize>
 
 // The bytes, and zeros after them.
 #[tactic(auto, using(crate::proofs::Places::padded_step))]
-fn padded(text: &[u8]) -> [u8; 64]
-    requires { length text.now ≤ 64 }
-    ensures { result ≡ text.now ++ replicate (64 - length text.now) 0 }
+fn padded(text: &[u8]) -> [u8; MOST_ID_BYTES]
+    requires { length text.now ≤ most_id_bytes }
+    ensures { result ≡ text.now ++ replicate (most_id_bytes - length text.now) 0 }
 {
-    let mut bytes = [0; 64];
+    let mut bytes = [0; MOST_ID_BYTES];
     for (i, b) in text.iter().enumerate() {
         bytes[i] = *b;
     }
@@ -138,12 +141,12 @@ impl MinionId {
     pub fn from_bytes(text: &[u8]) -> Result<MinionId, IdFault>
         ensures ok { IfOk result (λ id. (id ≡ text.now) × IsId text.now) }
         ensures fault { IfErr result (HasFault text.now) }
-        ensures succeeds { IsId text.now → IsOk result }
+        ensures complete { IsId text.now → IsOk result }
     {
         if text.is_empty() {
             return Err(IdFault::Empty);
         }
-        if text.len() > 64 {
+        if text.len() > MOST_ID_BYTES {
             return Err(IdFault::TooLong { length: text.len() });
         }
         match first_bad(text) {
@@ -159,7 +162,7 @@ impl MinionId {
     pub fn read(text: &str) -> Result<MinionId, IdFault>
         ensures ok { IfOk result (λ id. (id ≡ text.now) × IsId text.now) }
         ensures fault { IfErr result (HasFault text.now) }
-        ensures succeeds { IsId text.now → IsOk result }
+        ensures complete { IsId text.now → IsOk result }
     {
         MinionId::from_bytes(text.as_bytes())
     }

@@ -1,3 +1,4 @@
+//! Job ids: moments in microseconds, and their text.
 ghost use Rattle.salt_value.specs.Jid as spec;
 ghost use Rattle.salt_value.specs.Calendar.{date_text, HasParts};
 ghost use Rattle.salt_value.specs.Told as told;

@@ -1,8 +1,8 @@
-// Laws of the bytes, as the clauses of functions that do nothing.
+//! Laws of the bytes, as the clauses of functions that do nothing.
 ghost use Rattle.std.specs.Prelude.{◌≡◌, ◌<◌, ◌≤◌, ◌^◌, ◌++◌, ℕ, List, length, true, Ok};
 ghost use Rattle.std.specs.Int.{Width, byte_len, to_be_bytes};
 ghost use Rattle.salt_value.specs.Spelling.{bytes, text};
-ghost use Rattle.salt_value.specs.WellFormed.{Fits, is_text};
+ghost use Rattle.salt_value.specs.WellFormed.{ValueFits, is_text};
 ghost use Rattle.salt_value.specs.Decoding.{IsBytes, number_or, text_or, read_at};
 ghost use Rattle.salt_value.specs.declared.value.Value.{Value};
 
@@ -26,12 +26,12 @@ pub fn texts_read_back<F>()
 /// A law: values within the limits that are written are read again, whatever follows them, and what
 /// is read was written so.
 pub fn values_read_back()
-    ensures written { (v : Value) (rest : List ℕ) → Fits v → read_at (bytes v ++ rest) ≡ Ok (v, length (bytes v)) }
+    ensures written { (v : Value) (rest : List ℕ) → ValueFits v → read_at (bytes v ++ rest) ≡ Ok (v, length (bytes v)) }
     ensures read { (input : List ℕ) (v : Value) (n : ℕ) → IsBytes input → read_at input ≡ Ok (v, n)
-        → Fits v × (n ≡ length (bytes v)) × ((rest : List ℕ) × (input ≡ bytes v ++ rest) × IsBytes rest) }
+        → ValueFits v × (n ≡ length (bytes v)) × ((rest : List ℕ) × (input ≡ bytes v ++ rest) × IsBytes rest) }
 {}
 
 /// A law: no spelling of a value within the limits begins another one.
 pub fn prefix_free()
-    ensures { (v w : Value) (x y : List ℕ) → Fits v → Fits w → bytes v ++ x ≡ bytes w ++ y → (v ≡ w) × (x ≡ y) }
+    ensures { (v w : Value) (x y : List ℕ) → ValueFits v → ValueFits w → bytes v ++ x ≡ bytes w ++ y → (v ≡ w) × (x ≡ y) }
 {}

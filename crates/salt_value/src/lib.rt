@@ -1,4 +1,5 @@
-//! Ids of nodes and of jobs, words, texts and values, and values as bytes.
+//! Ids of nodes and of jobs, words, texts and values, and values as bytes. `Value::read(alloc, bytes)?` gives the value that begins
+//! some bytes and how many bytes it takes, and `value.write(&mut out)?` appends those bytes again.
 #![tactic(auto)]
 
 mod bytes;
@@ -10,10 +11,9 @@ mod fits;
 mod id;
 mod jid;
 mod laws;
+mod limits;
 mod outcome;
 mod reading;
-#[cfg(test)]
-mod tests;
 mod text;
 mod value;
 mod word;

@@ -1,4 +1,4 @@
-// What a job gave.
+//! What a job gave.
 ghost use Rattle.std.specs.Prelude.{◌≡◌, IfOk};
 
 use crate::id::MinionId;

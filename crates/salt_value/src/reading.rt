@@ -1,32 +1,30 @@
-// Values read from bytes.
+//! Values read from bytes.
 ghost use Rattle.std.specs.Prelude.{◌≡◌, None};
 ghost use Rattle.std.specs.Option.{option_copied};
 ghost use Rattle.salt_value.specs.Keys.{comes_after, before};
 ghost use Rattle.salt_value.specs.Decoding as spec;
-ghost use Rattle.salt_value.specs.Decoding.{Gives, Answers};
-ghost use Rattle.salt_value.specs.FirstFault.{placed};
+ghost use Rattle.salt_value.specs.Readers.{Gives, Answers, several};
+ghost use Rattle.salt_value.specs.declared.fault.Misread.TheVariants.{NoMemory};
+ghost use Rattle.salt_value.specs.declared.fault.ValueFault.TheVariants as faults;
+ghost use Rattle.salt_value.specs.Tags.{tag_of};
+ghost use Rattle.salt_value.specs.FirstFault.{value_fault};
 
 use crate::bytes::{text_or, u32_or, u64_or};
 use crate::fault::{Misread, ValueFault};
+use crate::limits::{MOST_VALUE_BYTES, MOST_VALUE_LEVELS};
 use crate::text::Text;
 use crate::value::{Fields, Items, Value};
 use std::alloc::Global;
 
-/// The bytes of the longest value.
-const MOST_BYTES: usize = 65_536;
-
-/// The levels of the deepest value.
-const MOST_LEVELS: usize = 32;
-
 fn int_at(bytes: &[u8]) -> Result<(i64, &[u8]), Misread>
-    ensures { Gives (λ x. (x.0, x.1.now)) result (spec.int_at bytes.now) }
+    ensures { Gives NoMemory (λ x. (x.0, x.1.now)) result (spec.int_at bytes.now) }
 {
     let (number, rest) = u64_or(bytes, Misread::Short)?;
     Ok((number.cast_signed(), rest))
 }
 
 fn text_at(alloc: Global, bytes: &[u8]) -> Result<(Text, &[u8]), Misread>
-    ensures { Gives (λ x. (x.0, x.1.now)) result (spec.text_at bytes.now) }
+    ensures { Gives NoMemory (λ x. (x.0, x.1.now)) result (spec.text_at bytes.now) }
 {
     let bad = Misread::NotUtf8(bytes.len().saturating_sub(4));
     let (text, rest) = text_or(bytes, Misread::Short, bad)?;
@@ -55,7 +53,7 @@ fn key_at<'b>(
     last: Option<&[u8]>,
     bytes: &'b [u8],
 ) -> Result<(Text, &'b [u8]), Misread>
-    ensures { Gives (λ x. (x.0, x.1.now)) result (spec.key_at (option_copied last.entry) bytes.now) }
+    ensures { Gives NoMemory (λ x. (x.0, x.1.now)) result (spec.key_at (option_copied last.entry) bytes.now) }
 {
     let (key, rest) = text_at(alloc, bytes)?;
     if !may_follow(last, key.as_bytes()) {
@@ -68,7 +66,7 @@ fn key_at<'b>(
 #[cycle(reading)]
 #[tactic(auto, using(crate::proofs::ReadLemmas::value_at_steps))]
 fn value_at(alloc: Global, levels: usize, bytes: &[u8]) -> Result<(Value, &[u8]), Misread>
-    ensures { Gives (λ x. (x.0, x.1.now)) result (spec.value_at levels bytes.now) }
+    ensures { Gives NoMemory (λ x. (x.0, x.1.now)) result (spec.value_at levels bytes.now) }
 {
     if levels == 0 {
         return Err(Misread::TooDeep);
@@ -81,28 +79,28 @@ fn value_at(alloc: Global, levels: usize, bytes: &[u8]) -> Result<(Value, &[u8])
 
 // What stands after the tag of a value that may have so many levels below its own.
 #[cycle(reading)]
-#[tactic(auto, unfolding(crate::specs::Decoding::tagged))]
+#[tactic(auto, unfolding(crate::specs::Decoding::after_tag))]
 fn tagged(alloc: Global, levels: usize, tag: u8, bytes: &[u8]) -> Result<(Value, &[u8]), Misread>
-    ensures { Gives (λ x. (x.0, x.1.now)) result (spec.tagged levels (spec.value_at levels) tag bytes.now) }
+    ensures { Gives NoMemory (λ x. (x.0, x.1.now)) result (spec.after_tag levels (spec.value_at levels) (tag_of tag) bytes.now) }
 {
     match tag {
-        0 => Ok((Value::Null, bytes)),
-        1 => Ok((Value::Flag(false), bytes)),
-        2 => Ok((Value::Flag(true), bytes)),
-        3 => {
+        0x00 => Ok((Value::Null, bytes)),
+        0x01 => Ok((Value::Flag(false), bytes)),
+        0x02 => Ok((Value::Flag(true), bytes)),
+        0x03 => {
             let (number, rest) = int_at(bytes)?;
             Ok((Value::Int(number), rest))
         }
-        4 => {
+        0x04 => {
             let (text, rest) = text_at(alloc, bytes)?;
             Ok((Value::Str(text), rest))
         }
-        5 => {
+        0x05 => {
             let (count, rest) = u32_or(bytes, Misread::Short)?;
             let (items, rest) = items_at(alloc, levels, count, rest)?;
             Ok((Value::List(items), rest))
         }
-        6 => {
+        0x06 => {
             let (count, rest) = u32_or(bytes, Misread::Short)?;
             let (fields, rest) = pairs_at(alloc, levels, count, rest)?;
             Ok((Value::Map(fields), rest))
@@ -119,7 +117,7 @@ fn items_at(
     count: u32,
     bytes: &[u8],
 ) -> Result<(Items, &[u8]), Misread>
-    ensures { Gives (λ x. (x.0, x.1.now)) result (spec.several (spec.value_at levels) count bytes.now) }
+    ensures { Gives NoMemory (λ x. (x.0, x.1.now)) result (several (spec.value_at levels) count bytes.now) }
 {
     let mut items = Items::new(alloc);
     let mut rest = bytes;
@@ -140,7 +138,7 @@ fn pair_at<'b>(
     last: Option<&[u8]>,
     bytes: &'b [u8],
 ) -> Result<(Text, Value, &'b [u8]), Misread>
-    ensures { Gives (λ x. ((x.0, x.1), x.2.now)) result (spec.pair_at levels (spec.value_at levels) (option_copied last.entry) bytes.now) }
+    ensures { Gives NoMemory (λ x. ((x.0, x.1), x.2.now)) result (spec.pair_at levels (spec.value_at levels) (option_copied last.entry) bytes.now) }
 {
     if levels == 0 {
         return Err(Misread::TooDeep);
@@ -158,7 +156,7 @@ fn pairs_at(
     count: u32,
     bytes: &[u8],
 ) -> Result<(Fields, &[u8]), Misread>
-    ensures { Gives (λ x. (x.0, x.1.now)) result (spec.pairs_at levels (spec.value_at levels) None count bytes.now) }
+    ensures { Gives NoMemory (λ x. (x.0, x.1.now)) result (spec.pairs_at levels (spec.value_at levels) None count bytes.now) }
 {
     let mut fields = Fields::new(alloc);
     let mut rest = bytes;
@@ -172,12 +170,12 @@ fn pairs_at(
 
 // A fault by its place from the front, where so many bytes of all were looked at.
 fn place(misread: Misread, all: usize, seen: usize) -> ValueFault
-    ensures { result ≡ placed all seen misread }
+    ensures { result ≡ value_fault all seen misread }
 {
     match misread {
         Misread::NoMemory => ValueFault::NoMemory,
         Misread::Short => {
-            if all < MOST_BYTES {
+            if all < MOST_VALUE_BYTES {
                 ValueFault::Short
             } else {
                 ValueFault::TooLarge
@@ -199,10 +197,10 @@ fn place(misread: Misread, all: usize, seen: usize) -> ValueFault
 // The value that begins the input, and how many bytes it takes.
 #[tactic(auto, unfolding(crate::specs::Decoding::read_at))]
 pub fn whole(alloc: Global, input: &[u8]) -> Result<(Value, usize), ValueFault>
-    ensures { Answers result (spec.read_at input.now) }
+    ensures { Answers faults.NoMemory result (spec.read_at input.now) }
 {
-    let seen = input.len().min(MOST_BYTES);
-    match value_at(alloc, MOST_LEVELS, &input[..seen]) {
+    let seen = input.len().min(MOST_VALUE_BYTES);
+    match value_at(alloc, MOST_VALUE_LEVELS, &input[..seen]) {
         Ok((value, rest)) => Ok((value, seen.saturating_sub(rest.len()))),
         Err(misread) => Err(place(misread, input.len(), seen)),
     }

@@ -1,3 +1,4 @@
+//! Texts.
 ghost use Rattle.std.specs.Prelude.{◌≡◌, IfOk};
 
 use std::alloc::AllocError;
@@ -21,7 +22,8 @@ impl Model for Text {
 }
 
 impl Text {
-    ghost use Rattle.std.specs.Prelude.{string_bytes};
+    ghost use Rattle.std.specs.Prelude.{string_bytes, true};
+    ghost use Rattle.std.specs.Str.{is_utf8};
 
     /// The text of a string, taken over without memory.
     pub fn new(inner: String) -> Text
@@ -30,8 +32,10 @@ impl Text {
         Text { inner }
     }
 
+    /// The text, whose bytes are UTF-8.
     pub fn as_str(&self) -> &str
-        ensures { result.now ≡ self.now }
+        ensures value { result.now ≡ self.now }
+        ensures valid { is_utf8 self.now ≡ true }
     {
         self.inner.as_str()
     }

@@ -1,5 +1,7 @@
+//! Values.
 use crate::fault::ValueFault;
 use crate::fields::Pairs;
+use crate::limits::{MOST_VALUE_BYTES, MOST_VALUE_LEVELS};
 use crate::text::Text;
 use crate::{copy, fits, reading, writing};
 use std::alloc::{AllocError, Global};
@@ -23,13 +25,15 @@ pub enum Value {
 }
 
 impl Value {
-    ghost use Rattle.std.specs.Prelude.{◌≡◌, ◌≢◌, ◌≤◌, ◌↔◌, ◌++◌, ℕ, IsTrue, List, length, Ok, Err, IfOk, IfErr, OnOk, OnErr};
+    ghost use Rattle.std.specs.Prelude.{◌≡◌, ◌≢◌, ◌<◌, ◌≤◌, ◌↔◌, ◌++◌, ℕ, false, IsTrue, List, length, Ok, Err, IfOk, IfErr, OnOk, OnErr};
     ghost use Rattle.std.specs.Option.{option_copied};
     ghost use Rattle.salt_value.specs.Scalar.{scalar_text};
     ghost use Rattle.salt_value.specs.Child.{child};
     ghost use Rattle.salt_value.specs.Spelling.{bytes};
-    ghost use Rattle.salt_value.specs.WellFormed.{Fits};
-    ghost use Rattle.salt_value.specs.Decoding.{Answers, read_at};
+    ghost use Rattle.salt_value.specs.WellFormed.{ValueFits, depth};
+    ghost use Rattle.salt_value.specs.Limits.{most_value_levels, most_value_bytes};
+    ghost use Rattle.salt_value.specs.Readers.{Answers};
+    ghost use Rattle.salt_value.specs.Decoding.{read_at};
     ghost use Rattle.salt_value.specs.FirstFault.{FirstFault};
     ghost use Rattle.salt_value.specs.declared.value.Value.{Value};
     ghost use Rattle.salt_value.specs.declared.fault.ValueFault.{ValueFault};
@@ -70,14 +74,16 @@ impl Value {
     /// Whether the value is within the limits, which are this project's own: its depth is at most 32,
     /// where a scalar has depth 1, and its spelling has at most 65,536 bytes.
     pub fn fits(&self) -> bool
-        ensures { IsTrue result ↔ Fits self.now }
+        ensures ok { IsTrue result ↔ ValueFits self.now }
+        // A value that is refused is too deep or too large.
+        ensures large { result ≡ false → depth self.now ≤ most_value_levels → most_value_bytes < length (bytes self.now) }
     {
-        fits::after(self, 32, 65_536).is_some()
+        fits::after(self, MOST_VALUE_LEVELS, MOST_VALUE_BYTES).is_some()
     }
 
     /// Appends the spelling of a value that is within the limits. An error leaves all as it was.
     pub fn write(&self, out: &mut Vec<u8>) -> Result<(), AllocError>
-        requires { Fits self.now }
+        requires { ValueFits self.now }
         ensures ok { OnOk result (out.new.items ≡ out.old.items ++ bytes self.now) }
         ensures err { OnErr result (out.new.items ≡ out.old.items) }
     {
@@ -88,16 +94,16 @@ impl Value {
     /// at, and the first fault from the left is answered.
     pub fn read(alloc: Global, input: &[u8]) -> Result<(Value, usize), ValueFault>
         // What is read is spelled so, and is within the limits.
-        ensures found { IfOk result (λ x. Fits x.0 × (x.1 ≡ length (bytes x.0)) × ((rest : List ℕ) × (input.now ≡ bytes x.0 ++ rest))) }
+        ensures ok { IfOk result (λ x. ValueFits x.0 × (x.1 ≡ length (bytes x.0)) × ((rest : List ℕ) × (input.now ≡ bytes x.0 ++ rest))) }
         ensures within { IfOk result (λ x. x.1 ≤ length input.now) }
         // What is spelled so is read, whatever follows it, unless memory runs out.
-        ensures only { (v : Value) (rest : List ℕ) → Fits v → input.now ≡ bytes v ++ rest → Answers result (Ok (v, length (bytes v))) }
+        ensures complete { (v : Value) (rest : List ℕ) → ValueFits v → input.now ≡ bytes v ++ rest → Answers ValueFault.NoMemory result (Ok (v, length (bytes v))) }
         // A fault that is answered is the first one from the left.
         ensures fault { IfErr result (λ e. e ≢ ValueFault.NoMemory → FirstFault input.now e) }
         // The first fault is answered, unless memory runs out.
-        ensures first { (e : ValueFault) → FirstFault input.now e → Answers result (Err e) }
+        ensures first { (e : ValueFault) → FirstFault input.now e → Answers ValueFault.NoMemory result (Err e) }
         // All of this as a function.
-        ensures exact { Answers result (read_at input.now) }
+        ensures exact { Answers ValueFault.NoMemory result (read_at input.now) }
     {
         reading::whole(alloc, input)
     }

@@ -1,6 +1,8 @@
+//! Words: the tags of events and the names of functions.
 ghost use Rattle.std.specs.Prelude.{◌≡◌, not, position, IfOk, IfErr};
 ghost use Rattle.salt_value.specs.Word as spec;
 
+use crate::limits::MOST_WORD_BYTES;
 use std::alloc::{AllocError, Global};
 use std::marker::Model;
 use thiserror::Error;
@@ -75,12 +77,12 @@ impl Word {
     pub fn read(alloc: Global, text: &str) -> Result<Word, WordFault>
         ensures ok { IfOk result (λ word. (word ≡ text.now) × IsWord text.now) }
         ensures fault { IfErr result (HasFault text.now) }
-        ensures succeeds { IsWord text.now → IfErr result (λ e. e ≡ WordFault.NoMemory) }
+        ensures complete { IsWord text.now → IfErr result (λ e. e ≡ WordFault.NoMemory) }
     {
         if text.is_empty() {
             return Err(WordFault::Empty);
         }
-        if text.len() > 256 {
+        if text.len() > MOST_WORD_BYTES {
             return Err(WordFault::TooLong { length: text.len() });
         }
         match first_bad(text.as_bytes()) {

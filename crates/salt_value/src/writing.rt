@@ -1,4 +1,4 @@
-// Values written as bytes.
+//! Values written as bytes.
 ghost use Rattle.std.specs.Prelude.{◌≡◌, ◌<◌, ◌^◌, ◌++◌, List, ℕ, length, map, OnOk, OnErr};
 ghost use Rattle.std.specs.Int.{w32, to_be_bytes};
 ghost use Rattle.salt_value.specs.Spelling.{bytes, joined, pairs_joined, spelled_pairs};
@@ -17,23 +17,23 @@ fn put(out: &mut Vec<u8>, value: &Value) -> Result<(), AllocError>
     ensures err { OnErr result ((more : List ℕ) × (out.new.items ≡ out.old.items ++ more)) }
 {
     match value {
-        Value::Null => out.push(0)?,
-        Value::Flag(false) => out.push(1)?,
-        Value::Flag(true) => out.push(2)?,
+        Value::Null => out.push(0x00)?,
+        Value::Flag(false) => out.push(0x01)?,
+        Value::Flag(true) => out.push(0x02)?,
         Value::Int(number) => {
-            out.push(3)?;
+            out.push(0x03)?;
             put_u64(out, number.cast_unsigned())?;
         }
         Value::Str(text) => {
-            out.push(4)?;
+            out.push(0x04)?;
             put_text(out, text.as_bytes())?;
         }
         Value::List(items) => {
-            out.push(5)?;
+            out.push(0x05)?;
             put_items(out, items.as_slice())?;
         }
         Value::Map(fields) => {
-            out.push(6)?;
+            out.push(0x06)?;
             put_pairs(out, fields.as_slice())?;
         }
     }

@@ -8,7 +8,7 @@ use Rattle.salt_value.specs.Id.{IsId, is_id_byte}
 use Rattle.salt_value.specs.Word.{IsWord, is_word_byte}
 use Rattle.salt_value.specs.Jid.{greatest_jid}
 use Rattle.salt_value.specs.Spelling.{bytes, text}
-use Rattle.salt_value.specs.WellFormed.{Fits, is_text}
+use Rattle.salt_value.specs.WellFormed.{ValueFits, is_text}
 use Rattle.salt_value.specs.Decoding.{◌>>=◌, IsBytes, number_or, text_or, read_at}
 use Rattle.salt_value.specs.declared.fault.ValueFault.{ValueFault}
 use Rattle.salt_value.specs.declared.value.Value.{Value, roll-Value, out-Value, roll-out-Value, out-roll-Value}
@@ -33,8 +33,8 @@ pub record Lower : Type 0 where
       → number_or w short input ≡ Ok (n, rest) → (n < 256 ^ byte_len w) × (input ≡ to_be_bytes w n ++ rest) × IsBytes rest
   pub texts_written : (short wrong : Misread) (t rest : List ℕ) → is_text t ≡ true → text_or short wrong (text t ++ rest) ≡ Ok (t, rest)
   pub texts_read : (short wrong : Misread) (input : List ℕ) (t rest : List ℕ) → IsBytes input → text_or short wrong input ≡ Ok (t, rest) → (is_text t ≡ true) × (input ≡ text t ++ rest) × IsBytes rest
-  pub values_written : (v : Value) (rest : List ℕ) → Fits v → read_at (bytes v ++ rest) ≡ Ok (v, length (bytes v))
-  pub values_read : (input : List ℕ) (v : Value) (n : ℕ) → IsBytes input → read_at input ≡ Ok (v, n) → Fits v × (n ≡ length (bytes v)) × ((rest : List ℕ) × (input ≡ bytes v ++ rest) × IsBytes rest)
+  pub values_written : (v : Value) (rest : List ℕ) → ValueFits v → read_at (bytes v ++ rest) ≡ Ok (v, length (bytes v))
+  pub values_read : (input : List ℕ) (v : Value) (n : ℕ) → IsBytes input → read_at input ≡ Ok (v, n) → ValueFits v × (n ≡ length (bytes v)) × ((rest : List ℕ) × (input ≡ bytes v ++ rest) × IsBytes rest)
 
 -- ---- steps
 
@@ -134,13 +134,13 @@ abbrev pub list_bytes : List Value → List ℕ
 list_bytes xs = bytes (v.List xs)
 
 abbrev pub ListFits : List Value → Type 0
-ListFits xs = Fits (v.List xs)
+ListFits xs = ValueFits (v.List xs)
 
 abbrev pub map_bytes : List (List ℕ × Value) → List ℕ
 map_bytes ps = bytes (v.Map ps)
 
 abbrev pub MapFits : List (List ℕ × Value) → Type 0
-MapFits ps = Fits (v.Map ps)
+MapFits ps = ValueFits (v.Map ps)
 
 abbrev pub IsShortText : ℕ → List ℕ → Type 0
 IsShortText most t = IsText t × (length t ≤ most)
@@ -277,7 +277,7 @@ module _ (l : Lower) where
   value_or_ok b (Ok y) x e = (y, refl, cc)
   value_or_ok b (Err f) x e = absurd cc
 
-  pub values : IsReadBack bytes Fits value_field
+  pub values : IsReadBack bytes ValueFits value_field
   unfolding value_field
   values = record {
     written = λ v rest h. ap (value_or (bytes v ++ rest)) (l.values_written v rest h) ∙ ap (λ (r : List ℕ). Ok (v, r)) (drop_at (bytes v) rest (length (bytes v)) refl);
@@ -285,7 +285,7 @@ module _ (l : Lower) where
         let a = value_or_ok b (read_at b) x e in
         let t = l.values_read b a.0.0 a.0.1 h a.1 in
         let after : t.2.0 ≡ drop a.0.1 b = sym (ap (λ n. drop n b) t.1 ∙ ap (drop (length (bytes a.0.0))) t.2.1 ∙ drop_at (bytes a.0.0) t.2.0 (length (bytes a.0.0)) refl) in
-        subst (Took bytes Fits b) a.2 (t.0, t.2.1 ∙ ap (λ (r : List ℕ). bytes a.0.0 ++ r) after, subst IsBytes after t.2.2);
+        subst (Took bytes ValueFits b) a.2 (t.0, t.2.1 ∙ ap (λ (r : List ℕ). bytes a.0.0 ++ r) after, subst IsBytes after t.2.2);
   }
 
   items_of-List : (xs : List Value) → items_of (v.List xs) ≡ Some xs
@@ -308,7 +308,7 @@ module _ (l : Lower) where
         let f = found_ok (bad b) (items_of a.0.0) a.0.1 x a.2 in
         let t = values.took b a.0 h a.1 in
         let same : a.0.0 ≡ v.List f.0 = sym (roll-out-Value a.0.0) ∙ items_layer-is (out-Value a.0.0) f.0 f.1 in
-        subst (λ (y : List Value × List ℕ). Took list_bytes ListFits b y) f.2 (subst Fits same t.0, t.1 ∙ ap (λ (w : Value). bytes w ++ a.0.1) same, t.2);
+        subst (λ (y : List Value × List ℕ). Took list_bytes ListFits b y) f.2 (subst ValueFits same t.0, t.1 ∙ ap (λ (w : Value). bytes w ++ a.0.1) same, t.2);
   }
 
   pairs_of-Map : (ps : List (List ℕ × Value)) → pairs_of (v.Map ps) ≡ Some ps
@@ -331,5 +331,5 @@ module _ (l : Lower) where
         let f = found_ok (bad b) (pairs_of a.0.0) a.0.1 x a.2 in
         let t = values.took b a.0 h a.1 in
         let same : a.0.0 ≡ v.Map f.0 = sym (roll-out-Value a.0.0) ∙ pairs_layer-is (out-Value a.0.0) f.0 f.1 in
-        subst (λ (y : List (List ℕ × Value) × List ℕ). Took map_bytes MapFits b y) f.2 (subst Fits same t.0, t.1 ∙ ap (λ (w : Value). bytes w ++ a.0.1) same, t.2);
+        subst (λ (y : List (List ℕ × Value) × List ℕ). Took map_bytes MapFits b y) f.2 (subst ValueFits same t.0, t.1 ∙ ap (λ (w : Value). bytes w ++ a.0.1) same, t.2);
   }

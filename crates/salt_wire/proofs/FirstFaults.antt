@@ -6,7 +6,7 @@ use Rattle.std.proofs.lemmas.Bool.{eqb-true, eqb-false, ne_eqb}
 use Rattle.salt_value.specs.Id.{IsId}
 use Rattle.salt_value.specs.Word.{IsWord}
 use Rattle.salt_value.specs.Spelling.{bytes, text}
-use Rattle.salt_value.specs.WellFormed.{Fits}
+use Rattle.salt_value.specs.WellFormed.{ValueFits}
 use Rattle.salt_value.specs.Decoding.{◌>>=◌, IsBytes, number_or, text_or, read_at}
 use Rattle.salt_value.specs.declared.fault.ValueFault.{ValueFault}
 use Rattle.salt_value.specs.declared.value.Value.{Value}
@@ -239,7 +239,7 @@ module _ (l : Lower) (trees : IsReadBack tree TreeFits tree_field) (tree_told : 
   after_kind = plain code AnyKind kind_field (kinds l) kind_only
 
   after_value : {C : Type 0} (more : Wrong) (next : Value × List ℕ → Result (C × List ℕ) Misread) → ((x : Value) → IsTold more (λ b. next (x, b))) → IsTold (Then AnyValue more) (λ b. value_field b >>= next)
-  after_value = plain bytes Fits value_field (values l) value_only
+  after_value = plain bytes ValueFits value_field (values l) value_only
 
   after_items : {C : Type 0} (more : Wrong) (next : List Value × List ℕ → Result (C × List ℕ) Misread) → ((x : List Value) → IsTold more (λ b. next (x, b))) → IsTold (Then Items more) (λ b. items_field b >>= next)
   after_items = plain list_bytes ListFits items_field (lists l) items_only

@@ -6,7 +6,7 @@ use Rattle.salt_value.specs.Id.{IsId}
 use Rattle.salt_value.specs.Word.{IsWord}
 use Rattle.salt_value.specs.Jid.{greatest_jid}
 use Rattle.salt_value.specs.Spelling.{bytes, text}
-use Rattle.salt_value.specs.WellFormed.{Fits}
+use Rattle.salt_value.specs.WellFormed.{ValueFits}
 use Rattle.salt_value.specs.Decoding.{IsBytes}
 use Rattle.salt_value.specs.declared.value.Value.{Value}
 use Rattle.salt_value.specs.declared.value.Value.TheVariants as v
@@ -38,7 +38,7 @@ module _ (l : Lower) (trees : IsReadBack tree TreeFits tree_field) where
   return_took b x h e =
       let s1 = step number IsNumber number_field (numbers l) _ b x h e in
       let s2 = step one_byte IsByte byte_field (a_byte l) _ s1.rest x s1.are_bytes s1.gives in
-      let s3 = step bytes Fits value_field (values l) _ s2.rest x s2.are_bytes s2.gives in
+      let s3 = step bytes ValueFits value_field (values l) _ s2.rest x s2.are_bytes s2.gives in
       let made : Entry × List ℕ = (en.Return s1.it (record { retcode = s2.it; value = s3.it }), s3.rest) in
       subst (Took entry EntryFits (1 ∷ b)) {x = made} (ok_is made x s3.gives) ((s1.right, s2.right, s3.right), ap (λ (r : List ℕ). 1 ∷ r) (join b (number s1.it) s1.rest (one_byte s2.it ++ (bytes s3.it)) s3.rest s1.parts (join s1.rest (one_byte s2.it) s2.rest (bytes s3.it) s3.rest s2.parts s3.parts)), s3.are_bytes)
 
@@ -46,7 +46,7 @@ module _ (l : Lower) (trees : IsReadBack tree TreeFits tree_field) where
   unfolding fired_at
   fired_took b x h e =
       let s1 = step word IsWord word_field (words l) _ b x h e in
-      let s2 = step bytes Fits value_field (values l) _ s1.rest x s1.are_bytes s1.gives in
+      let s2 = step bytes ValueFits value_field (values l) _ s1.rest x s1.are_bytes s1.gives in
       let made : Entry × List ℕ = (en.Fired (record { tag = s1.it; body = s2.it }), s2.rest) in
       subst (Took entry EntryFits (2 ∷ b)) {x = made} (ok_is made x s2.gives) ((s1.right, s2.right), ap (λ (r : List ℕ). 2 ∷ r) (join b (word s1.it) s1.rest (bytes s2.it) s2.rest s1.parts s2.parts), s2.are_bytes)
 
@@ -93,24 +93,24 @@ module _ (l : Lower) (trees : IsReadBack tree TreeFits tree_field) where
       let t = entry_after_took s.it s.rest x s.are_bytes s.gives in
       (t.0, s.parts ∙ t.1, t.2)
 
-  return_written : (seq : ℕ) (code : ℕ) (w : Value) (rest : List ℕ) → IsNumber seq × (code < 256) × Fits w → return_at (((number seq) ++ ((one_byte code) ++ (bytes w))) ++ rest) ≡ Ok (en.Return seq (record { retcode = code; value = w }), rest)
+  return_written : (seq : ℕ) (code : ℕ) (w : Value) (rest : List ℕ) → IsNumber seq × (code < 256) × ValueFits w → return_at (((number seq) ++ ((one_byte code) ++ (bytes w))) ++ rest) ≡ Ok (en.Return seq (record { retcode = code; value = w }), rest)
   unfolding return_at
   return_written seq code w rest h =
       again number IsNumber number_field (numbers l) _ seq ((one_byte code) ++ (bytes w)) rest h.0
       ∙ again one_byte IsByte byte_field (a_byte l) _ code (bytes w) rest h.1
-      ∙ again_last bytes Fits value_field (values l) _ w rest h.2
+      ∙ again_last bytes ValueFits value_field (values l) _ w rest h.2
 
-  fired_written : (tag : List ℕ) (w : Value) (rest : List ℕ) → IsWord tag × Fits w → fired_at (((word tag) ++ (bytes w)) ++ rest) ≡ Ok (en.Fired (record { tag = tag; body = w }), rest)
+  fired_written : (tag : List ℕ) (w : Value) (rest : List ℕ) → IsWord tag × ValueFits w → fired_at (((word tag) ++ (bytes w)) ++ rest) ≡ Ok (en.Fired (record { tag = tag; body = w }), rest)
   unfolding fired_at
   fired_written tag w rest h =
       again word IsWord word_field (words l) _ tag (bytes w) rest h.0
-      ∙ again_last bytes Fits value_field (values l) _ w rest h.1
+      ∙ again_last bytes ValueFits value_field (values l) _ w rest h.1
 
   start_written : (boot : ℕ) (rest : List ℕ) → IsNumber boot → start_at ((number boot) ++ rest) ≡ Ok (en.Start boot, rest)
   start_written boot rest h =
       again_last number IsNumber number_field (numbers l) _ boot rest h
 
-  mine_written : (seq : ℕ) (mine : List (List ℕ × Value)) (grains : List (List ℕ × Value)) (pillar : List (List ℕ × Value)) (rest : List ℕ) → IsNumber seq × Fits (v.Map mine) × Fits (v.Map grains) × Fits (v.Map pillar) → mine_at (((number seq) ++ ((map_bytes mine) ++ ((map_bytes grains) ++ (map_bytes pillar)))) ++ rest) ≡ Ok (en.Mine seq mine grains pillar, rest)
+  mine_written : (seq : ℕ) (mine : List (List ℕ × Value)) (grains : List (List ℕ × Value)) (pillar : List (List ℕ × Value)) (rest : List ℕ) → IsNumber seq × ValueFits (v.Map mine) × ValueFits (v.Map grains) × ValueFits (v.Map pillar) → mine_at (((number seq) ++ ((map_bytes mine) ++ ((map_bytes grains) ++ (map_bytes pillar)))) ++ rest) ≡ Ok (en.Mine seq mine grains pillar, rest)
   unfolding mine_at
   mine_written seq mine grains pillar rest h =
       again number IsNumber number_field (numbers l) _ seq ((map_bytes mine) ++ ((map_bytes grains) ++ (map_bytes pillar))) rest h.0
@@ -336,7 +336,7 @@ module _ (l : Lower) (trees : IsReadBack tree TreeFits tree_field) where
   hello_written name rest h =
       again_last id IsId id_field (ids l) _ name rest h
 
-  ask_publish_written : (kind : Kind) (tgt : List ℕ) (fun : List ℕ) (args : List Value) (rest : List ℕ) → IsText tgt × IsWord fun × Fits (v.List args) → ask_publish_fields (((code kind) ++ ((text tgt) ++ ((word fun) ++ (list_bytes args)))) ++ rest) ≡ Ok (m.AskPublish kind tgt fun args, rest)
+  ask_publish_written : (kind : Kind) (tgt : List ℕ) (fun : List ℕ) (args : List Value) (rest : List ℕ) → IsText tgt × IsWord fun × ValueFits (v.List args) → ask_publish_fields (((code kind) ++ ((text tgt) ++ ((word fun) ++ (list_bytes args)))) ++ rest) ≡ Ok (m.AskPublish kind tgt fun args, rest)
   unfolding ask_publish_fields
   ask_publish_written kind tgt fun args rest h =
       again code AnyKind kind_field (kinds l) _ kind ((text tgt) ++ ((word fun) ++ (list_bytes args))) rest tt

@@ -10,7 +10,7 @@ use Rattle.salt_value.specs.declared.value.Value.TheVariants.{rolls-List, rolls-
 use Rattle.salt_value.specs.declared.value.Value.TheOpen.{Value-F}
 use Rattle.salt_value.specs.Keys.{keys_of, ascends}
 use Rattle.salt_value.specs.Spelling.{bytes, spelling_layer, text, joined, pairs_joined, spelled_pairs}
-use Rattle.salt_value.specs.WellFormed.{every, every_pair, well_formed, well_formed_layer, is_text, is_count, IsWellFormed, AllWellFormed, PairsWellFormed, depth, depth_layer, greatest, Fits}
+use Rattle.salt_value.specs.WellFormed.{every, every_pair, well_formed, well_formed_layer, is_text, is_count, IsWellFormed, AllWellFormed, PairsWellFormed, depth, depth_layer, greatest, ValueFits}
 
 pub both_true : (a b : Bool) → (a && b) ≡ true → (a ≡ true) × (b ≡ true)
 both_true true true e = (refl, refl)
@@ -47,10 +47,10 @@ depth-Map ps = ap depth (sym (rolls-Map ps)) ∙ fold-roll-Value ℕ depth_layer
 
 -- ---- the count
 
-pub list_count : (vs : List Value) → Fits (v.List vs) → length vs < 2 ^ 32
+pub list_count : (vs : List Value) → ValueFits (v.List vs) → length vs < 2 ^ 32
 list_count vs h = ltb-true _ _ (both_true (is_count (length vs)) (every (map well_formed vs)) (sym (well_formed-List vs) ∙ h.well_formed)).0
 
-pub map_count : (ps : List (List ℕ × Value)) → Fits (v.Map ps) → length ps < 2 ^ 32
+pub map_count : (ps : List (List ℕ × Value)) → ValueFits (v.Map ps) → length ps < 2 ^ 32
 map_count ps h = ltb-true _ _ (both_true (is_count (length ps)) _ (sym (well_formed-Map ps) ∙ h.well_formed)).0
 
 -- ---- each member
@@ -70,7 +70,7 @@ member (v ∷ vs) (suc i) d h lt =
     let m = member vs i d (both_true (well_formed v) (every (map well_formed vs)) h).1 (omega arith) in
     record { deep = omega (arith, m.deep); long = omega (arith, len, m.long); well = m.well }
 
-pub fits_item : (vs : List Value) (i : ℕ) (d : Value) → Fits (v.List vs) → i < length vs → Fits (get_or vs i d)
+pub fits_item : (vs : List Value) (i : ℕ) (d : Value) → ValueFits (v.List vs) → i < length vs → ValueFits (get_or vs i d)
 fits_item vs i d h lt =
     let m = member vs i d (both_true (is_count (length vs)) (every (map well_formed vs)) (sym (well_formed-List vs) ∙ h.well_formed)).1 lt in
     let whole = ap length (bytes-List vs) in
@@ -100,7 +100,7 @@ pair_member (p ∷ ps) (suc i) d h lt =
     let more = length-append (bytes p.1) (pairs_joined (spelled_pairs ps)) in
     record { key = m.key; deep = omega (arith, m.deep); long = omega (arith, len, more, m.long); well = m.well }
 
-pub fits_pair : (ps : List (List ℕ × Value)) (i : ℕ) (d : List ℕ × Value) → Fits (v.Map ps) → i < length ps → (length (get_or ps i d).0 < 2 ^ 32) × Fits (get_or ps i d).1
+pub fits_pair : (ps : List (List ℕ × Value)) (i : ℕ) (d : List ℕ × Value) → ValueFits (v.Map ps) → i < length ps → (length (get_or ps i d).0 < 2 ^ 32) × ValueFits (get_or ps i d).1
 fits_pair ps i d h lt =
     let a = both_true (is_count (length ps)) (every_pair (pairs_told ps) && ascends (keys_of (pairs_told ps))) (sym (well_formed-Map ps) ∙ h.well_formed) in
     let m = pair_member ps i d (both_true (every_pair (pairs_told ps)) _ a.1).0 lt in

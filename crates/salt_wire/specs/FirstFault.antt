@@ -6,7 +6,7 @@ use Rattle.salt_value.specs.Id.{IsId}
 use Rattle.salt_value.specs.Word.{IsWord}
 use Rattle.salt_value.specs.Jid.{greatest_jid}
 use Rattle.salt_value.specs.Spelling.{bytes, text, joined}
-use Rattle.salt_value.specs.WellFormed.{Fits as ValueFits}
+use Rattle.salt_value.specs.WellFormed.{ValueFits}
 use Rattle.salt_value.specs.declared.value.Value.TheVariants as v
 use Rattle.target_tree.specs.Kinds.{code_of}
 use Rattle.salt_wire.specs.declared.fault.WireFault.{WireFault}

@@ -4,7 +4,7 @@ use Rattle.std.specs.List.{list_all}
 use Rattle.salt_value.specs.Id.{is_id_byte, IsId}
 use Rattle.salt_value.specs.Word.{IsWord}
 use Rattle.salt_value.specs.Jid.{greatest_jid}
-use Rattle.salt_value.specs.WellFormed.{Fits, is_text}
+use Rattle.salt_value.specs.WellFormed.{ValueFits, is_text}
 use Rattle.salt_value.specs.declared.value.Value.TheVariants as v
 use Rattle.target_tree.specs.declared.target.Target.{Target, fold-Target}
 use Rattle.target_tree.specs.declared.target.Target.TheOpen.{Target-F}
@@ -86,14 +86,14 @@ pub record JobFits (j : Job) : Type 0 where
   pub tgt_long : length j.tgt ≤ 4096
   pub target : TreeFits j.target
   pub fun : IsWord j.fun
-  pub args : Fits (v.List j.args)
+  pub args : ValueFits (v.List j.args)
 
 -- an entry within the limits
 abbrev pub EntryFits : Entry → Type 0
-EntryFits (Return seq outcome) = IsNumber seq × (outcome.retcode < 256) × Fits outcome.value
-EntryFits (Fired event) = IsWord event.tag × Fits event.body
+EntryFits (Return seq outcome) = IsNumber seq × (outcome.retcode < 256) × ValueFits outcome.value
+EntryFits (Fired event) = IsWord event.tag × ValueFits event.body
 EntryFits (Start boot) = IsNumber boot
-EntryFits (Mine seq mine grains pillar) = IsNumber seq × Fits (v.Map mine) × Fits (v.Map grains) × Fits (v.Map pillar)
+EntryFits (Mine seq mine grains pillar) = IsNumber seq × ValueFits (v.Map mine) × ValueFits (v.Map grains) × ValueFits (v.Map pillar)
 
 -- the status of an answer to a client
 abbrev pub is_status : ℕ → Bool
@@ -107,7 +107,7 @@ Within (Up minion n e) = IsId minion × IsNumber n × EntryFits e
 Within (UpHave minion n) = IsId minion × IsNumber n
 Within (Hello name) = IsId name
 Within End = Unit {0}
-Within (AskPublish kind tgt fun args) = IsText tgt × IsWord fun × Fits (v.List args)
+Within (AskPublish kind tgt fun args) = IsText tgt × IsWord fun × ValueFits (v.List args)
 Within (AskReport jid) = jid ≤ greatest_jid
 Within AskJobs = Unit {0}
 Within (AskMine kind tgt fun) = IsText tgt × IsWord fun

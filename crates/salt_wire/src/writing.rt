@@ -3,7 +3,7 @@ ghost use Rattle.std.specs.Prelude.{◌≡◌, ◌<◌, ◌≤◌, ◌^◌, ◌+
 ghost use Rattle.std.specs.Int.{w16, w64, to_be_bytes};
 ghost use Rattle.salt_value.specs.Spelling.{bytes, text as spelled_text, joined};
 ghost use Rattle.target_tree.specs.Kinds.{code_of};
-ghost use Rattle.salt_value.specs.WellFormed.{Fits};
+ghost use Rattle.salt_value.specs.WellFormed.{ValueFits};
 ghost use Rattle.salt_value.specs.declared.value.Value.TheVariants as v;
 ghost use Rattle.salt_wire.specs.Spelling as spelling;
 ghost use Rattle.salt_wire.specs.declared.message.Message.TheVariants as m;
@@ -37,7 +37,7 @@ pub fn put_word(out: &mut Vec<u8>, word: &Word) -> Result<(), AllocError>
 
 // A list of values.
 fn put_items(out: &mut Vec<u8>, items: &[Value]) -> Result<(), AllocError>
-    requires { Fits (v.List items.now) }
+    requires { ValueFits (v.List items.now) }
     ensures ok { OnOk result (out.new.items ≡ out.old.items ++ bytes (v.List items.now)) }
     ensures err { OnErr result ((more : List ℕ) × (out.new.items ≡ out.old.items ++ more)) }
 {
@@ -51,7 +51,7 @@ fn put_items(out: &mut Vec<u8>, items: &[Value]) -> Result<(), AllocError>
 
 // A key and its value.
 fn put_pair(out: &mut Vec<u8>, key: &Text, value: &Value) -> Result<(), AllocError>
-    requires { (length key.now < 2 ^ 32) × Fits value.now }
+    requires { (length key.now < 2 ^ 32) × ValueFits value.now }
     ensures ok { OnOk result (out.new.items ≡ out.old.items ++ (spelled_text key.now ++ bytes value.now)) }
     ensures err { OnErr result ((more : List ℕ) × (out.new.items ≡ out.old.items ++ more)) }
 {
@@ -62,7 +62,7 @@ fn put_pair(out: &mut Vec<u8>, key: &Text, value: &Value) -> Result<(), AllocErr
 
 // A map of values.
 fn put_fields(out: &mut Vec<u8>, pairs: &[(Text, Value)]) -> Result<(), AllocError>
-    requires { Fits (v.Map pairs.now) }
+    requires { ValueFits (v.Map pairs.now) }
     ensures ok { OnOk result (out.new.items ≡ out.old.items ++ bytes (v.Map pairs.now)) }
     ensures err { OnErr result ((more : List ℕ) × (out.new.items ≡ out.old.items ++ more)) }
 {
@@ -134,7 +134,7 @@ fn put_tree(out: &mut Vec<u8>, tree: &Target) -> Result<(), AllocError>
 
 // A function's name and its arguments.
 fn put_call(out: &mut Vec<u8>, fun: &Word, args: &[Value]) -> Result<(), AllocError>
-    requires { Fits (v.List args.now) }
+    requires { ValueFits (v.List args.now) }
     ensures ok { OnOk result (out.new.items ≡ out.old.items ++ (spelling.word fun.now ++ bytes (v.List args.now))) }
     ensures err { OnErr result ((more : List ℕ) × (out.new.items ≡ out.old.items ++ more)) }
 {

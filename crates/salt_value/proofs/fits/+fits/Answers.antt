@@ -25,11 +25,11 @@ after_items-loop-item-preserved t c =
 pub after_pairs-returns-in_default : goal.after_pairs-returns-in_default
 after_pairs-returns-in_default t c =
     pairs_end c.args.pairs.now c.loop-key.key-index c.loop-key-item.result c.args.levels c.args.room c.loop-key.left
-    c.if-room-lt5.false c.loop-key-test.true c.loop-key-item.is c.loop-key.invariant (rw c.as_str.ensures at c.in_default.ensures)
+    c.if-room-lt5.false c.loop-key-test.true c.loop-key-item.is c.loop-key.invariant (rw c.as_str.ensures.value at c.in_default.ensures)
 
 pub after_pairs-loop-key-preserved : goal.after_pairs-loop-key-preserved
 after_pairs-loop-key-preserved t c =
-    pairs_more c.args.pairs.now c.loop-key.key-index c.loop-key-item.result _ _ _ _ c.loop-key-test.true c.loop-key-item.is c.loop-key.invariant (rw c.as_str.ensures at c.in-Some.ensures)
+    pairs_more c.args.pairs.now c.loop-key.key-index c.loop-key-item.result _ _ _ _ c.loop-key-test.true c.loop-key-item.is c.loop-key.invariant (rw c.as_str.ensures.value at c.in-Some.ensures)
 
 pub after_pairs-returns : goal.after_pairs-returns
 after_pairs-returns t c = pairs_whole c.args.pairs.now _ c.args.levels c.args.room c.loop-key.left c.if-room-lt5.false (take_all c.loop-key.key-index c.args.pairs.now c.loop-key-test.false) c.loop-key.invariant

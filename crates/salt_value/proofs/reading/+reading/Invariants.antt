@@ -1,7 +1,8 @@
 use Rattle.std.proofs.Common.{◌≡◌, ◌+◌, ◌*◌, ◌-◌, None}
 use Rattle.salt_value.specs.Keys.{last_key}
-use Rattle.salt_value.specs.Decoding.{several, pairs_at, value_at}
-use Rattle.salt_value.proofs.LoopLemmas.{with_front}
+use Rattle.salt_value.specs.Readers.{several}
+use Rattle.salt_value.specs.Decoding.{pairs_at, value_at}
+use Rattle.salt_value.proofs.ReaderLoops.{with_front}
 use Rattle.salt_value.proofs.reading.+reading.Given as goal
 
 abbrev pub decreases-value_at : goal.decreases-value_at

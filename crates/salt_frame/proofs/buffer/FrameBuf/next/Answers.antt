@@ -1,7 +1,8 @@
 use Rattle.std.proofs.Common.{◌≡◌, ◌+◌, ◌++◌, length, drop, refl, sym, ap, ◌∙◌, subst, arith}
 use Rattle.std.proofs.lemmas.List.{length-drop}
 use Rattle.salt_frame.specs.Frames.{length_at, frame, IsBody}
-use Rattle.salt_frame.proofs.FrontLemmas.{at_start, seen, body_seen, rest_at, others_at, taken}
+use Rattle.salt_frame.proofs.FrontLemmas.{at_start, seen, body_seen, rest_at, others_at}
+use Rattle.salt_frame.proofs.HoldLemmas.{taken}
 use Rattle.salt_frame.proofs.buffer.FrameBuf.next.Goals as goal
 
 pub length_of-requires : goal.length_of-requires

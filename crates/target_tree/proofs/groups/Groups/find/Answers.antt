@@ -6,4 +6,4 @@ use Rattle.target_tree.proofs.groups.Groups.find.Goals as goal
 pub returns-in-Err : goal.returns-in-Err
 returns-in-Err c =
     let ids : AreIds c.args.self.now = search rules in
-    not-named c.args.self.now c.args.name.now ids (λ id. absurd (true≢false (sym (c.in-Err.ensures.succeeds id))))
+    not-named c.args.self.now c.args.name.now ids (λ id. absurd (true≢false (sym (c.in-Err.ensures.complete id))))

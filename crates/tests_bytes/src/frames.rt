@@ -1,6 +1,7 @@
-// Frames by hand, streams cut at each of their bytes, and lengths at the limit.
-use crate::{FeedFault, FrameBuf};
+//! Frames by hand, streams cut at each of their bytes, and lengths at the limit.
+use salt_frame::{FeedFault, FrameBuf, any_cutting, frames_are_prefix_free, one_reading};
 use std::alloc::Global;
+use std::process::Abort;
 
 // Pieces that are fed, the answer to the last one, the bodies that are then taken, and the bytes left after them.
 #[derive(Drop)]
@@ -163,27 +164,33 @@ fn a_stream_cut_at_each_of_its_bytes(rt: HostRuntime) {
     }
 }
 
-// Feeds one byte, and gives how many bodies and bytes of bodies are then taken.
-fn taken_after(buf: &mut FrameBuf, byte: u8) -> Result<(usize, usize), FeedFault> {
+// Feeds one byte, and gives the length of the body that is then taken.
+fn taken_after(buf: &mut FrameBuf, byte: u8) -> Result<Option<usize>, FeedFault> {
     buf.feed(&[byte])?;
-    Ok(match buf.next() {
-        Some(body) => (1, body.len()),
-        None => (0, 0),
-    })
+    Ok(buf.next().map(|body| body.len()))
+}
+
+// At which of its bytes a body of the stream is whole, and its length.
+fn whole_at(i: usize) -> Option<usize> {
+    match i {
+        5 => Some(2),
+        9 => Some(0),
+        16 => Some(3),
+        _ => None,
+    }
+}
+
+fn takes_bytes(rt: &impl Abort, buf: &mut FrameBuf) {
+    for (i, byte) in STREAM.iter().enumerate() {
+        assert_eq!(rt; taken_after(buf, *byte), Ok(whole_at(i)), "byte {i}");
+    }
+    assert_eq!(rt; buf.rest(), 2);
 }
 
 #[test]
 fn pieces_of_one_byte(rt: HostRuntime) {
     let mut buf = FrameBuf::new(rt.alloc());
-    let mut wanted = [(0, 0); 19];
-    wanted[5] = (1, 2);
-    wanted[9] = (1, 0);
-    wanted[16] = (1, 3);
-    for (i, byte) in STREAM.iter().enumerate() {
-        let taken = taken_after(&mut buf, *byte);
-        assert!(rt; i < 19 && taken == Ok(wanted[i]), "byte {i}");
-    }
-    assert_eq!(rt; buf.rest(), 2);
+    takes_bytes(&rt, &mut buf);
 }
 
 // Feeds the length of a body of the greatest length, and the body of zeros in two halves.
@@ -204,12 +211,23 @@ fn a_body_of_the_greatest_length(rt: HostRuntime) {
     assert!(rt; greatest(rt.alloc()) == Ok(1_048_576));
 }
 
+fn takes_after_the_limit(rt: &impl Abort, buf: &mut FrameBuf) {
+    let first = buf.feed(b"\0\0\0\x01a\0\0\0\x01b\0\x10\0\x01c");
+    let taken = is_next(buf, b"a");
+    let second = buf.feed(b"\0\0\0\x01d");
+    let others = gives(buf, &[b"b"]);
+    assert!(rt; first == TOO_LARGE && second == TOO_LARGE && taken && others && buf.rest() == 4);
+}
+
 #[test]
 fn frames_before_a_length_over_the_limit_are_taken_after_it(rt: HostRuntime) {
     let mut buf = FrameBuf::new(rt.alloc());
-    let first = buf.feed(b"\0\0\0\x01a\0\0\0\x01b\0\x10\0\x01c");
-    let taken = is_next(&mut buf, b"a");
-    let second = buf.feed(b"\0\0\0\x01d");
-    let others = gives(&mut buf, &[b"b"]);
-    assert!(rt; first == TOO_LARGE && second == TOO_LARGE && taken && others && buf.rest() == 4);
+    takes_after_the_limit(&rt, &mut buf);
+}
+
+#[test]
+fn laws_of_frames_are_called() {
+    any_cutting();
+    one_reading();
+    frames_are_prefix_free();
 }

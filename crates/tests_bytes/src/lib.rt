@@ -1,0 +1,5 @@
+//! Tests of frames and messages by their public calls.
+#![tactic(auto)]
+
+#[cfg(test)]
+mod frames;
