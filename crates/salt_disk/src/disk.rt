@@ -1,9 +1,9 @@
-// A disk of three files: the trait, its parts and its faults.
+//! A disk of three files: the trait, its parts and its faults.
 ghost use Rattle.std.specs.Prelude.{◌≡◌, ◌⊎◌, ◌≤◌, ◌-◌, ◌+◌, List, ℕ, [], ◌∷◌, ◌++◌, length, take, drop, min, IfOk, OnOk, OnErr, IsErrOf};
 ghost use Rattle.salt_disk.specs.declared.disk.DiskFault.TheVariants.{NoMemory};
-ghost use Rattle.salt_disk.specs.Disk.{DiskState, PartState, part_of, settled, put, IsWritten, IsCut, Changes, Stays, IsHonest, read_from};
+ghost use Rattle.salt_disk.specs.Disk.{DiskState, PartState, part_of, settled, put, IsWritten, IsCut, Changes, Stays, IsHonest, read_from, UnlessNoMemory};
 ghost use Rattle.salt_disk.specs.Crash.{GoesOn, LeavesTheSame};
-ghost use Rattle.salt_disk.specs.Causes.{HasCause, UnlessNoMemory};
+ghost use Rattle.salt_outside.specs.Causes.{CountsFaults};
 ghost use Rattle.salt_disk.specs.declared.disk.Fuse.{Fuse};
 ghost use Rattle.salt_disk.specs.Fuse.{Burns, Lasts};
 
@@ -81,7 +81,7 @@ pub trait Disk {
         ensures same { is_told → Stays (state self.old) (state self.new) (past self.old) (past self.new) }
         ensures memory { IsErrOf result NoMemory → ⊥ }
         ensures fuse { is_told → Lasts (fuse self.old) (fuse self.new) result }
-        ensures cause { HasCause (faults self.old) (faults self.new) result };
+        ensures faults { CountsFaults (IsErrOf result DiskFault.Failed) (faults self.old) (faults self.new) };
 
     /// Reads the bytes that are there from the place `at` on, as far as `into` goes, and answers their number.
     /// After an error `into` may hold anything.
@@ -93,7 +93,7 @@ pub trait Disk {
         ensures same { is_told → Stays (state self.old) (state self.new) (past self.old) (past self.new) }
         ensures memory { IsErrOf result NoMemory → ⊥ }
         ensures fuse { is_told → Lasts (fuse self.old) (fuse self.new) result }
-        ensures cause { HasCause (faults self.old) (faults self.new) result };
+        ensures faults { CountsFaults (IsErrOf result DiskFault.Failed) (faults self.old) (faults self.new) };
 
     /// Writes these bytes at the place `at`, over what is there and past the end. After `Failed` the range
     /// may hold anything; after `NoMemory` nothing was changed.
@@ -105,7 +105,7 @@ pub trait Disk {
         ensures time { is_told → GoesOn (state self.old) (state self.new) (past self.old) (past self.new) }
         ensures fuse { is_told → Burns 1 (fuse self.old) (fuse self.new) result }
         ensures fuse_memory { is_told → IsErrOf result NoMemory → fuse self.new ≡ fuse self.old }
-        ensures cause { HasCause (faults self.old) (faults self.new) result };
+        ensures faults { CountsFaults (IsErrOf result DiskFault.Failed) (faults self.old) (faults self.new) };
 
     /// Makes the part empty. After `Failed` a crash may leave it empty or as it was.
     fn cut(&mut self, part: Part) -> Result<(), DiskFault>
@@ -115,7 +115,7 @@ pub trait Disk {
         ensures still { is_told → LeavesTheSame (state self.old) (state self.new) → past self.new ≡ past self.old }
         ensures memory { IsErrOf result NoMemory → ⊥ }
         ensures fuse { is_told → Burns 1 (fuse self.old) (fuse self.new) result }
-        ensures cause { HasCause (faults self.old) (faults self.new) result };
+        ensures faults { CountsFaults (IsErrOf result DiskFault.Failed) (faults self.old) (faults self.new) };
 
     /// Brings the part to rest: after it, a crash leaves what a read gives. After `Failed` all is as it was.
     fn sync(&mut self, part: Part) -> Result<(), DiskFault>
@@ -125,7 +125,7 @@ pub trait Disk {
         ensures still { is_told → LeavesTheSame (state self.old) (state self.new) → past self.new ≡ past self.old }
         ensures memory { IsErrOf result NoMemory → ⊥ }
         ensures fuse { is_told → Burns 1 (fuse self.old) (fuse self.new) result }
-        ensures cause { HasCause (faults self.old) (faults self.new) result };
+        ensures faults { CountsFaults (IsErrOf result DiskFault.Failed) (faults self.old) (faults self.new) };
 
     /// A disk as it reads is one of its own images.
     ghost honest: { (disk : Self) → is_told → IsHonest (state disk) };

@@ -12,6 +12,3 @@ mod through;
 pub use disk::{Disk, DiskFault, Fuse, Part, Range};
 pub use memory::MemDisk;
 pub use through::write_through;
-
-#[cfg(test)]
-mod tests;

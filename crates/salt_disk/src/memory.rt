@@ -1,4 +1,4 @@
-// A disk in memory. It keeps a record of its changing calls, from which what a crash might have left follows.
+//! A disk in memory. It keeps a record of its changing calls, from which what a crash might have left follows.
 ghost use Rattle.std.specs.Prelude.{◌≡◌, ◌≢◌, ◌≤◌, ◌+◌, [], length, vec_len, vec_capacity, OnOk, OnErr};
 ghost use Rattle.salt_disk.specs.Disk.{part_of, settled, IsSettled};
 ghost use Rattle.salt_disk.specs.Crash.{MayLeave, LeavesTheSame};

@@ -1,8 +1,8 @@
-// A write that is on the disk when it answers Ok.
+//! A write that is on the disk when it answers Ok.
 ghost use Rattle.std.specs.Prelude.{◌≡◌, ◌<◌, ◌≤◌, length, OnOk, OnErr, IsErrOf};
 ghost use Rattle.salt_disk.specs.Disk.{part_of, settled, put, IsSettled, Stays};
 ghost use Rattle.salt_disk.specs.Crash.{IsWithin, LeavesOnly, WritesOnly, OthersStay};
-ghost use Rattle.salt_disk.specs.Causes.{HasCause};
+ghost use Rattle.salt_outside.specs.Causes.{CountsFaults};
 ghost use Rattle.salt_disk.specs.Fuse.{Burns};
 
 use crate::{Disk, DiskFault, Part};
@@ -25,7 +25,7 @@ pub fn write_through<D: Disk>(
     ensures crash { D.is_told → LeavesOnly D.past D.state disk.old disk.new (WritesOnly part at (length bytes.now) (D.state disk.old)) }
     ensures fuse { D.is_told → Burns 2 (D.fuse disk.old) (D.fuse disk.new) result }
     ensures cut_off { D.is_told → IsErrOf result DiskFault.Failed → IsWithin (part_of (D.state disk.new) part).unsure at }
-    ensures cause { HasCause (D.faults disk.old) (D.faults disk.new) result }
+    ensures faults { CountsFaults (IsErrOf result DiskFault.Failed) (D.faults disk.old) (D.faults disk.new) }
 {
     disk.write_at(part, at, bytes)?;
     disk.sync(part)
