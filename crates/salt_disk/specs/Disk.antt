@@ -50,7 +50,7 @@ pub record IsWritten (at : ℕ) (bytes : List ℕ) (old new : PartState) : Type 
   pub elsewhere : (place : ℕ) → (place < at) ⊎ (at + length bytes ≤ place) → slice_index new.bytes place ≡ slice_index old.bytes place
 
 -- a cut to nothing, whether it went well or not
-pub record IsCut (old new : PartState) : Type 0 where
+pub record IsEmptied (old new : PartState) : Type 0 where
   pub unsure : new.unsure ≡ old.unsure
   pub least : new.least ≡ 0
   pub greatest : new.greatest ≡ old.greatest

@@ -1,5 +1,5 @@
 //! When the calls of a disk in memory fail.
-ghost use Rattle.std.specs.Prelude.{◌≡◌, ◌≤◌, IsErrOf};
+ghost use Rattle.std.specs.Prelude.{◌≡◌, ◌≤◌, OnOk, IsErrOf};
 ghost use Rattle.salt_outside.specs.Causes.{next_count, CountsFaults};
 ghost use Rattle.salt_disk.specs.Fuse.{Burns, Lasts};
 
@@ -14,6 +14,7 @@ pub struct Faults {
 impl Faults {
     /// A call that changes nothing: it fails where the fuse is out.
     pub fn pass(&mut self) -> Result<(), DiskFault>
+        ensures ok { OnOk result (self.new ≡ self.old) }
         ensures fuse { Lasts self.old.fuse self.new.fuse result }
         ensures faults { CountsFaults (IsErrOf result DiskFault.Failed) self.old.count self.new.count }
         ensures memory { IsErrOf result DiskFault.NoMemory → ⊥ }

@@ -19,7 +19,7 @@ pub fn write_through<D: Disk>(
     requires some { 0 < length bytes.now }
     requires settled { D.is_told → IsSettled (part_of (D.state disk.old) part) }
     requires within { D.is_told → at ≤ length (part_of (D.state disk.old) part).bytes }
-    ensures written { D.is_told → OnOk result (part_of (D.state disk.new) part ≡ settled (put at bytes.now (part_of (D.state disk.old) part).bytes)) }
+    ensures ok { D.is_told → OnOk result (part_of (D.state disk.new) part ≡ settled (put at bytes.now (part_of (D.state disk.old) part).bytes)) }
     ensures memory { D.is_told → IsErrOf result DiskFault.NoMemory → Stays (D.state disk.old) (D.state disk.new) (D.past disk.old) (D.past disk.new) }
     ensures others { D.is_told → OthersStay part (D.state disk.old) (D.state disk.new) }
     ensures crash { D.is_told → LeavesOnly D.past D.state disk.old disk.new (WritesOnly part at (length bytes.now) (D.state disk.old)) }

@@ -60,7 +60,11 @@ fn goes(rt: &impl Abort, disk: &mut MemDisk, calls: &[(Part, Step, Result<u64, D
 }
 
 // A read of three bytes over three sevens at each place, and what it answers.
-fn reads(rt: &impl Abort, disk: &mut MemDisk, rows: &[(Part, u64, Result<usize, DiskFault>, &[u8])]) {
+fn reads(
+    rt: &impl Abort,
+    disk: &mut MemDisk,
+    rows: &[(Part, u64, Result<usize, DiskFault>, &[u8])],
+) {
     for (part, at, answer, bytes) in rows {
         let mut three = [7; 3];
         let read = disk.read(*part, *at, &mut three);
@@ -96,8 +100,11 @@ static CUTS: [(Part, Step, Result<u64, DiskFault>); 3] = [
     (Part::Even, Step::Len, Ok(0)),
 ];
 
-static THROUGH: [(Part, Step, Result<u64, DiskFault>); 1] =
-    [(Part::Even, Step::Through(1, b"!"), Ok(0))];
+static THROUGH: [(Part, Step, Result<u64, DiskFault>); 1] = [(
+    Part::Even,
+    Step::Through(1, b"!"),
+    Ok(0),
+)];
 
 #[test]
 fn a_disk_is_written_read_and_cut(rt: HostRuntime) {
@@ -305,10 +312,18 @@ static FAILING: [(Part, Step, Result<u64, DiskFault>); 6] = [
     (Part::Root, Step::Cut, Err(DiskFault::Failed)),
 ];
 
-static FAILING_READ: [(Part, u64, Result<usize, DiskFault>, &[u8]); 1] =
-    [(Part::Root, 0, Err(DiskFault::Failed), b"\x07\x07\x07")];
+static FAILING_READ: [(Part, u64, Result<usize, DiskFault>, &[u8]); 1] = [(
+    Part::Root,
+    0,
+    Err(DiskFault::Failed),
+    b"\x07\x07\x07",
+)];
 
-static AFTER_THE_CRASH: [(Part, Step, Result<u64, DiskFault>); 1] = [(Part::Odd, Step::Sync, Ok(0))];
+static AFTER_THE_CRASH: [(Part, Step, Result<u64, DiskFault>); 1] = [(
+    Part::Odd,
+    Step::Sync,
+    Ok(0),
+)];
 
 #[test]
 fn from_a_failed_call_on_every_call_fails(rt: HostRuntime) {

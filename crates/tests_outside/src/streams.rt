@@ -49,7 +49,12 @@ static WHOLE: [(usize, u64, usize, Result<usize, ReadAll>); 13] = [
     (8_193, 0, 8_192, Err(ReadAll::TooLong { limit: 8_192 })),
     (20_000, 0, usize::MAX, Ok(20_000)),
     (SCRIPT, 0, SCRIPT, Ok(SCRIPT)),
-    (SCRIPT + 1, 0, SCRIPT, Err(ReadAll::TooLong { limit: SCRIPT })),
+    (
+        SCRIPT + 1,
+        0,
+        SCRIPT,
+        Err(ReadAll::TooLong { limit: SCRIPT }),
+    ),
     (20_000, 0, 20_000, Ok(20_000)),
     (20_000, 1, 20_000, Err(ReadAll::ReadFault)),
     (20_000, 2, 20_000, Err(ReadAll::ReadFault)),
@@ -153,7 +158,11 @@ fn gives_ten(alloc: Global, bad_call: u8) -> Result<bool, ReadAll> {
 #[test]
 fn a_reader_fails_in_mid_stream(rt: HostRuntime) {
     for (bad_call, given) in &GIVEN {
-        assert_eq!(rt; gives_ten(rt.alloc(), *bad_call), *given, "at call {bad_call}");
+        assert_eq!(rt;
+            gives_ten(rt.alloc(), *bad_call),
+            *given,
+            "at call {bad_call}"
+        );
     }
 }
 

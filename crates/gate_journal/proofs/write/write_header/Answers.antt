@@ -20,7 +20,7 @@ returns-clause-any_moment g c = λ told.
     let old = g.D.Disk.state c.args.disk.now in
     let mid = g.D.Disk.state c.write_through.new.disk in
     let bytes = c.header_but_one.result in
-    let short : length (part_of mid c.args.part).bytes ≤ 17 = omega (arith, ap length (ap (λ (p : PartState). p.bytes) (c.in_ok-write_through.ensures.written told) ∙ first_bytes c.args.limit bytes (part_of old c.args.part).bytes c.header_but_one.ensures (c.requires.short told) ∙ c.header_but_one.ensures)) in
+    let short : length (part_of mid c.args.part).bytes ≤ 17 = omega (arith, ap length (ap (λ (p : PartState). p.bytes) (c.in_ok-write_through.ensures.ok told) ∙ first_bytes c.args.limit bytes (part_of old c.args.part).bytes c.header_but_one.ensures (c.requires.short told) ∙ c.header_but_one.ensures)) in
     joins g.D.Disk.past g.D.Disk.state c.args.disk.now c.write_through.new.disk c.write_through-2.new.disk
     (WritesOnly c.args.part 0 (length c.header_but_one.result) old) (WritesOnly c.args.part 0 1 mid) (HoldsNothing c.args.part old)
     (c.write_through.ensures.crash told) (c.write_through-2.ensures.crash told)
@@ -33,5 +33,5 @@ returns-clause-made g c = λ told.
     let mid = part_of (g.D.Disk.state c.write_through.new.disk) c.args.part in
     let new = part_of (g.D.Disk.state c.write_through-2.new.disk) c.args.part in
     on_ok c.write_through-2.result (new ≡ settled (put 0 (83 ∷ []) mid.bytes)) (Rests c.args.limit 17 [] new)
-    (λ is. made c.args.limit c.header_but_one.result old mid new c.header_but_one.ensures (c.requires.short told) (c.in_ok-write_through.ensures.written told) is c.requires.least c.requires.greatest)
-    (c.write_through-2.ensures.written told)
+    (λ is. made c.args.limit c.header_but_one.result old mid new c.header_but_one.ensures (c.requires.short told) (c.in_ok-write_through.ensures.ok told) is c.requires.least c.requires.greatest)
+    (c.write_through-2.ensures.ok told)
