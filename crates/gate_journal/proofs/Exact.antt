@@ -1,9 +1,10 @@
 -- The bytes of a part have one reading: no journal, a journal, or a journal that is damaged at one place.
-use Rattle.std.proofs.Common.{◌≡◌, ◌≢◌, ◌⊎◌, ⊎_elim, ℕ, ◌+◌, ◌-◌, ◌<◌, ◌≤◌, ◌^◌, List, [], ◌∷◌, ◌++◌, length, get_or, take, drop, refl, sym, ◌∙◌, ap, subst, arith, append_assoc, length-append, codes}
+use Rattle.std.proofs.Common.{◌≡◌, ◌≢◌, ◌⊎◌, ⊎_elim, ℕ, ◌+◌, ◌-◌, ◌<◌, ◌≤◌, ◌^◌, List, [], ◌∷◌, ◌++◌, length, get_or, take, drop, refl, sym, ◌∙◌, ap, subst, arith, append_assoc, length-append}
 use Rattle.std.proofs.lemmas.List.{take_at}
 use Rattle.std.proofs.lemmas.Nat.{from_be_bytes-to_be_bytes_4, from_be_bytes-to_be_bytes_8}
 use Rattle.std.specs.Int.{w32, w64, from_be_bytes}
 use Rattle.byteorder.specs.Endian.{big_bytes}
+use Rattle.gate_journal.specs.Layout.{journal_name}
 use Rattle.gate_journal.specs.Journal.{record_of, records, header, IsJournal}
 use Rattle.gate_journal.specs.Read.{limit_in, IsNoJournal, IsBroken, IsDamagedAt}
 use Rattle.gate_journal.proofs.Unique.{same_number, same_back, same_front}
@@ -108,7 +109,7 @@ headed limit front behind bytes is some least greatest none =
     let long : length bytes ≡ 16 + length front + length behind = omega (arith, ap length whole_is, length-append (header limit) (front ++ behind), length-append front behind) in
     let number : from_be_bytes w64 (take 8 (drop 8 bytes)) ≡ limit = ap (λ (l : List ℕ). from_be_bytes w64 (take 8 (drop 8 l))) whole_is ∙ from_be_bytes-to_be_bytes_8 limit (omega (arith, greatest)) in
     ⊎_elim (λ (short : length bytes < 17). absurd (omega (arith, short, long, some)))
-    (λ others. ⊎_elim (λ (name : take 8 bytes ≢ codes "SALTJNL1"). name (ap (λ (l : List ℕ). take 8 l) whole_is))
+    (λ others. ⊎_elim (λ (name : take 8 bytes ≢ journal_name). name (ap (λ (l : List ℕ). take 8 l) whole_is))
     (λ limits. ⊎_elim (λ (low : limit_in bytes < 64). absurd (omega (arith, low, number, least))) (λ (high : 1073741824 < limit_in bytes). absurd (omega (arith, high, number, greatest))) limits)
     others) none
 

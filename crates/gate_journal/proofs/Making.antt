@@ -6,7 +6,7 @@ use Rattle.salt_disk.specs.Disk.{PartState, DiskState, part_of, settled, IsSettl
 use Rattle.salt_disk.specs.Crash.{Image, IsPartImage, MayLeave, LeavesOnly, WritesOnly, OthersStay}
 use Rattle.salt_disk.proofs.Moments.{one_call, stays_on}
 use Rattle.salt_disk.proofs.Torn.{settled_image}
-use Rattle.gate_journal.specs.Journal.{record_of, records, header, IsJournal, Rests}
+use Rattle.gate_journal.specs.Journal.{record_of, records, header, fresh_journal, IsJournal, Rests}
 use Rattle.gate_journal.specs.Fresh.{HoldsNothing}
 use Rattle.gate_journal.proofs.Store.{length-journal}
 
@@ -45,13 +45,18 @@ first_bytes limit bytes old is short =
     let none : drop (0 + length bytes) old ≡ [] = drop_all (0 + length bytes) old (omega (arith, ap length is, length-first limit, short)) in
     ap (λ (l : List ℕ). bytes ++ l) none ∙ append-nil bytes
 
+-- both writes leave a fresh journal
+pub made_bytes : (limit : ℕ) (bytes : List ℕ) (old mid new : PartState) → bytes ≡ 0 ∷ (drop 1 (header limit) ++ 0 ∷ []) → length old.bytes ≤ 17 → mid ≡ settled (put 0 bytes old.bytes) → new ≡ settled (put 0 (83 ∷ []) mid.bytes)
+    → new.bytes ≡ fresh_journal limit
+made_bytes limit bytes old mid new is short first second =
+    let mid_is : mid.bytes ≡ 0 ∷ (drop 1 (header limit) ++ 0 ∷ []) = ap (λ (p : PartState). p.bytes) first ∙ first_bytes limit bytes old.bytes is short ∙ is in
+    ap (λ (p : PartState). p.bytes) second ∙ ap (λ (l : List ℕ). put 0 (83 ∷ []) l) mid_is ∙ refl
+
 pub made : (limit : ℕ) (bytes : List ℕ) (old mid new : PartState) → bytes ≡ 0 ∷ (drop 1 (header limit) ++ 0 ∷ []) → length old.bytes ≤ 17 → mid ≡ settled (put 0 bytes old.bytes) → new ≡ settled (put 0 (83 ∷ []) mid.bytes)
     → 64 ≤ limit → limit ≤ 1073741824 → Rests limit 17 [] new
 made limit bytes old mid new is short first second least greatest =
-    let mid_is : mid.bytes ≡ 0 ∷ (drop 1 (header limit) ++ 0 ∷ []) = ap (λ (p : PartState). p.bytes) first ∙ first_bytes limit bytes old.bytes is short ∙ is in
-    let new_is : new.bytes ≡ 83 ∷ (drop 1 (header limit) ++ 0 ∷ []) = ap (λ (p : PartState). p.bytes) second ∙ ap (λ (l : List ℕ). put 0 (83 ∷ []) l) mid_is ∙ refl in
     record {
-      holds = record { gate = 0; rest = []; shut = λ e. absurd (cc); bytes_are = new_is; within = omega (arith, least); least = least; greatest = greatest };
+      holds = record { gate = 0; rest = []; shut = λ e. absurd (cc); bytes_are = made_bytes limit bytes old mid new is short first second; within = omega (arith, least); least = least; greatest = greatest };
       counts = refl;
       is_settled = subst (λ (p : PartState). IsSettled p) (sym second) refl;
     }

@@ -6,12 +6,12 @@ use Rattle.salt_disk.specs.Fuse.{Passes, burnt}
 use Rattle.gate_journal.specs.declared.fault.AppendFault.{AppendFault}
 use Rattle.gate_journal.specs.declared.fault.AppendFault.TheVariants.{NoMemory, Down, Full, Disk}
 use Rattle.gate_journal.specs.Layout.{record_overhead}
-use Rattle.gate_journal.specs.Journal.{JournalState, IsJournal, Holds, StoppedAppend}
+use Rattle.gate_journal.specs.Journal.{JournalState, IsJournal, HoldsPayloads, StoppedAppend}
 
 -- the payloads that the journal has then: the new one at the end, where it answered Ok
-abbrev pub appended : {T : Type 0} → Result T AppendFault → List (List ℕ) → List ℕ → List (List ℕ)
-appended (Ok done) payloads payload = payloads ++ payload ∷ []
-appended (Err fault) payloads payload = payloads
+abbrev pub payloads_after : {T : Type 0} → Result T AppendFault → List (List ℕ) → List ℕ → List (List ℕ)
+payloads_after (Ok done) payloads payload = payloads ++ payload ∷ []
+payloads_after (Err fault) payloads payload = payloads
 
 -- the journal after an append of a payload of so many bytes: it is down from an answer `Disk` on, and changed by no other refusal
 abbrev pub after_append : {T : Type 0} → JournalState → ℕ → Result T AppendFault → JournalState
@@ -34,7 +34,7 @@ pub record AppendBurns {T : Type 0} (journal : JournalState) (payload : List ℕ
     (result : Result T AppendFault) : Type 0 where
   pub passed : OnOk result (Passes 4 before × (now ≡ burnt 4 before))
   pub not_passed : IsErrOf result Disk → Passes 4 before → ⊥
-  pub stopped : IsErrOf result Disk → (payloads : List (List ℕ)) → Holds journal payloads old
+  pub stopped : IsErrOf result Disk → (payloads : List (List ℕ)) → HoldsPayloads journal payloads old
       → StoppedAppend journal.part journal.limit journal.length payloads payload before new
 
 -- the answer is `Down` exactly where the journal was down, and the disk is as it was

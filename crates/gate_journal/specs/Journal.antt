@@ -1,12 +1,12 @@
 -- What the bytes of a part stand for.
-use Rattle.std.specs.Prelude.{◌≡◌, ◌≢◌, ◌⊎◌, ◌≤◌, ◌+◌, ◌-◌, ℕ, Bool, List, [], ◌∷◌, ◌++◌, length, slice_index, codes}
+use Rattle.std.specs.Prelude.{◌≡◌, ◌≢◌, ◌⊎◌, ◌≤◌, ◌+◌, ◌-◌, ℕ, Bool, List, [], ◌∷◌, ◌++◌, length, slice_index}
 use Rattle.byteorder.specs.Endian.{big_bytes}
 use Rattle.salt_disk.specs.declared.disk.Part.{Part}
 use Rattle.salt_disk.specs.Disk.{PartState, DiskState, part_of, IsSettled}
 use Rattle.salt_disk.specs.declared.disk.Fuse.{Fuse}
 use Rattle.salt_disk.specs.Crash.{Image, MayLeave, IsWithin, OthersMayLeave}
 use Rattle.salt_disk.specs.Fuse.{Passes}
-use Rattle.gate_journal.specs.Layout.{least_limit, greatest_limit, fresh_length, record_overhead, open_gate, closed_gate}
+use Rattle.gate_journal.specs.Layout.{journal_name, least_limit, greatest_limit, fresh_length, record_overhead, open_gate, closed_gate}
 
 -- an open gate, the payload's length and the payload
 abbrev pub record_of : List ℕ → List ℕ
@@ -19,7 +19,11 @@ records (payload ∷ payloads) = record_of payload ++ records payloads
 
 -- the name of the format, and the limit
 abbrev pub header : ℕ → List ℕ
-header limit = codes "SALTJNL1" ++ big_bytes 8 limit
+header limit = journal_name ++ big_bytes 8 limit
+
+-- a journal without payloads, as it is made: its header and a closed gate, and nothing behind it
+abbrev pub fresh_journal : ℕ → List ℕ
+fresh_journal limit = header limit ++ closed_gate ∷ []
 
 -- the length of a journal: its header, its records and the closed gate
 abbrev pub journal_length : List (List ℕ) → ℕ
@@ -59,8 +63,8 @@ pub record JournalState : Type 0 where
   pub is_down : Bool
 
 -- this journal stands on the disk with these payloads, and nothing is pending on its part
-abbrev pub Holds : JournalState → List (List ℕ) → DiskState → Type 0
-Holds journal payloads disk = Rests journal.limit journal.length payloads (part_of disk journal.part)
+abbrev pub HoldsPayloads : JournalState → List (List ℕ) → DiskState → Type 0
+HoldsPayloads journal payloads disk = Rests journal.limit journal.length payloads (part_of disk journal.part)
 
 -- the part's image holds the payloads, with one more or without it, and the other parts are as they were
 pub record HoldsOldOrNew (part : Part) (limit : ℕ) (payloads : List (List ℕ)) (payload : List ℕ) (old : DiskState) (image : Image) : Type 0 where

@@ -1,5 +1,9 @@
--- The numbers of the format: limits, places and lengths in bytes, and the bytes of a gate.
-use Rattle.std.specs.Prelude.{ℕ}
+-- The layout of a part: the name, the limits, the places and lengths in bytes, and the bytes of a gate.
+use Rattle.std.specs.Prelude.{ℕ, List, codes}
+
+-- the name of the format, with which each journal begins
+abbrev pub journal_name : List ℕ
+journal_name = codes "SALTJNL1"
 
 -- the least limit of a journal
 abbrev pub least_limit : ℕ

@@ -8,8 +8,8 @@ pub record PlacedPayloads : Type 0 where
   pub items : List (List ℕ)
 
 -- the place of the gate of record i: the records before it stand between
-abbrev pub place_of : PlacedPayloads → ℕ → ℕ
-place_of payloads i = payloads.first + length (records (take i payloads.items))
+abbrev pub gate_place : PlacedPayloads → ℕ → ℕ
+gate_place payloads i = payloads.first + length (records (take i payloads.items))
 
 -- there is one place for each payload, and it is that of its gate
 pub record ArePlaced (first : ℕ) (items : List (List ℕ)) (places : List ℕ) : Type 0 where

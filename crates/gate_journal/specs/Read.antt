@@ -1,9 +1,9 @@
 -- Which bytes are no journal, and which are a damaged one.
-use Rattle.std.specs.Prelude.{◌≡◌, ◌≢◌, ◌⊎◌, ◌<◌, ◌≤◌, ◌+◌, ◌-◌, ℕ, List, ◌∷◌, ◌++◌, length, take, drop, codes, Result, Ok, Err}
+use Rattle.std.specs.Prelude.{◌≡◌, ◌≢◌, ◌⊎◌, ◌<◌, ◌≤◌, ◌+◌, ◌-◌, ℕ, List, ◌∷◌, ◌++◌, length, take, drop, Result, Ok, Err}
 use Rattle.std.specs.Int.{w32, w64, from_be_bytes}
 use Rattle.gate_journal.specs.declared.fault.LoadFault.{LoadFault}
 use Rattle.gate_journal.specs.declared.fault.LoadFault.TheVariants.{NoMemory, Disk, NotAJournal, Damaged}
-use Rattle.gate_journal.specs.Layout.{least_limit, greatest_limit, first_gate, fresh_length, record_overhead, open_gate}
+use Rattle.gate_journal.specs.Layout.{journal_name, least_limit, greatest_limit, first_gate, fresh_length, record_overhead, open_gate}
 use Rattle.gate_journal.specs.Journal.{records, header}
 
 -- the number at place 8
@@ -12,7 +12,7 @@ limit_in bytes = from_be_bytes w64 (take 8 (drop 8 bytes))
 
 -- too short for a header and a gate, another name, or a limit out of range
 abbrev pub IsNoJournal : List ℕ → Type 0
-IsNoJournal bytes = (length bytes < fresh_length) ⊎ (take 8 bytes ≢ codes "SALTJNL1") ⊎ (limit_in bytes < least_limit) ⊎ (greatest_limit < limit_in bytes)
+IsNoJournal bytes = (length bytes < fresh_length) ⊎ (take 8 bytes ≢ journal_name) ⊎ (limit_in bytes < least_limit) ⊎ (greatest_limit < limit_in bytes)
 
 -- What stands behind an open gate is no whole record with a gate after it, or it goes past the limit.
 -- With the gate after it a record has `record_overhead + 1` bytes beside its payload, and behind its own gate one fewer.

@@ -1,3 +1,4 @@
+//! Why a call on a journal was refused.
 use salt_disk::Part;
 use thiserror::Error;
 

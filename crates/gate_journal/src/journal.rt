@@ -1,12 +1,12 @@
-// A journal: a header, and records behind gates. A record counts where its gate is open.
+//! A journal: a header, and records behind gates. A record counts where its gate is open.
 ghost use Rattle.std.specs.Prelude.{◌≡◌, ◌⊎◌, ◌<◌, ◌≤◌, [], ℕ, true, false, length, IfOk, OnOk, IsErrOf};
 ghost use Rattle.salt_disk.specs.Disk.{part_of, IsSettled, Stays};
 ghost use Rattle.salt_disk.specs.Crash.{MayLeave, LeavesOnly, OthersStay};
 ghost use Rattle.salt_disk.specs.Fuse.{Passes, burnt};
 ghost use Rattle.gate_journal.specs.Layout.{least_limit, greatest_limit, first_gate, fresh_length};
-ghost use Rattle.gate_journal.specs.Journal.{IsJournal, Rests, Holds, HoldsOldOrNew};
-ghost use Rattle.gate_journal.specs.Append.{appended, after_append, LeftAfter, AppendBurns, DownExactly, FullExactly};
-ghost use Rattle.gate_journal.specs.Faults.{CountsFaults};
+ghost use Rattle.gate_journal.specs.Journal.{IsJournal, fresh_journal, Rests, HoldsPayloads, HoldsOldOrNew};
+ghost use Rattle.gate_journal.specs.Append.{payloads_after, after_append, LeftAfter, AppendBurns, DownExactly, FullExactly};
+ghost use Rattle.salt_outside.specs.Causes.{CountsFaults};
 ghost use Rattle.gate_journal.specs.Read.{IsNoJournal, IsDamagedAt, IsAccepted, IsRefused};
 ghost use Rattle.gate_journal.specs.Fresh.{HoldsNothing};
 
@@ -46,7 +46,7 @@ impl Journal {
         disk: &mut D,
         part: Part,
     ) -> Result<(Journal, Payloads), LoadFault>
-        ensures loaded { D.is_told → IfOk result (λ r. Holds r.0 r.1.items (D.state disk.new)) }
+        ensures ok { D.is_told → IfOk result (λ r. HoldsPayloads r.0 r.1.items (D.state disk.new)) }
         ensures journal { IfOk result (λ r. (r.0.part ≡ part) × (r.0.is_down ≡ false)) }
         ensures places { IfOk result (λ r. r.1.first ≡ first_gate) }
 
@@ -55,12 +55,14 @@ impl Journal {
         ensures settled { D.is_told → (IsErrOf result LoadFault.Disk → ⊥) → IsSettled (part_of (D.state disk.new) part) }
         ensures others { D.is_told → OthersStay part (D.state disk.old) (D.state disk.new) }
         ensures any_moment { D.is_told → LeavesOnly D.past D.state disk.old disk.new (MayLeave (D.state disk.old)) }
-        ensures passed { D.is_told → OnOk result (Passes 1 (D.fuse disk.old) × (D.fuse disk.new ≡ burnt 1 (D.fuse disk.old))) }
+        // One changing call passes, but where the answer is `Disk`.
+        ensures passed { D.is_told → (IsErrOf result LoadFault.Disk → ⊥) → Passes 1 (D.fuse disk.old) × (D.fuse disk.new ≡ burnt 1 (D.fuse disk.old)) }
         ensures not_passed { D.is_told → IsErrOf result LoadFault.Disk → Passes 1 (D.fuse disk.old) → ⊥ }
 
         // The causes.
         ensures not_a_journal { D.is_told → IsErrOf result LoadFault.NotAJournal → IsNoJournal (part_of (D.state disk.old) part).bytes }
-        ensures damaged { D.is_told → (p : _) (at : ℕ) → IsErrOf result (LoadFault.Damaged p at) → (p ≡ part) × IsDamagedAt at (part_of (D.state disk.old) part).bytes }
+        ensures damaged { (p : _) (at : ℕ) → IsErrOf result (LoadFault.Damaged p at)
+            → (p ≡ part) × (D.is_told → IsDamagedAt at (part_of (D.state disk.old) part).bytes) }
         // Each of the two comes exactly there, and a journal is always found.
         ensures accepts { D.is_told → (limit : ℕ) (payloads : _) → IsJournal limit payloads (part_of (D.state disk.old) part).bytes
             → IsAccepted result × IfOk result (λ r. (r.0.limit ≡ limit) × (r.1.items ≡ payloads)) }
@@ -97,7 +99,9 @@ impl Journal {
         requires least { least_limit ≤ limit }
         requires greatest { limit ≤ greatest_limit }
         requires settled { D.is_told → IsSettled (part_of (D.state disk.old) part) }
-        ensures made { D.is_told → OnOk result (Rests limit fresh_length [] (part_of (D.state disk.new) part)) }
+        ensures ok { D.is_told → OnOk result (Rests limit fresh_length [] (part_of (D.state disk.new) part)) }
+        ensures bytes { D.is_told → OnOk result ((part_of (D.state disk.new) part).bytes ≡ fresh_journal limit) }
+        ensures length { D.is_told → OnOk result (length (part_of (D.state disk.new) part).bytes ≡ fresh_length) }
         ensures others { D.is_told → OthersStay part (D.state disk.old) (D.state disk.new) }
 
         // A crash at any moment leaves no journal that loads, or an empty one, or where the part is not empty what it could leave before.
@@ -111,8 +115,8 @@ impl Journal {
         ensures not_passed { D.is_told → IsErrOf result CreateFault.Disk → Passes 4 (D.fuse disk.old) → ⊥ }
 
         // The causes.
-        ensures not_empty { D.is_told → (n : ℕ) → IsErrOf result (CreateFault.NotEmpty n)
-            → (fresh_length < n) × (n ≡ length (part_of (D.state disk.old) part).bytes) }
+        ensures not_empty { (n : ℕ) → IsErrOf result (CreateFault.NotEmpty n)
+            → (fresh_length < n) × (disk.new ≡ disk.old) × (D.is_told → n ≡ length (part_of (D.state disk.old) part).bytes) }
         ensures full { D.is_told → fresh_length < length (part_of (D.state disk.old) part).bytes
             → IsErrOf result (CreateFault.NotEmpty (length (part_of (D.state disk.old) part).bytes)) ⊎ IsErrOf result CreateFault.Disk }
         ensures untouched { D.is_told → fresh_length < length (part_of (D.state disk.old) part).bytes
@@ -144,18 +148,18 @@ impl Journal {
         disk: &mut D,
         payload: &[u8],
     ) -> Result<(), AppendFault>
-        requires { D.is_told → self.old.is_down ≡ false → (payloads : _) × Holds self.old payloads (D.state disk.old) }
+        requires { D.is_told → self.old.is_down ≡ false → (payloads : _) × HoldsPayloads self.old payloads (D.state disk.old) }
 
         // The new payload stands at the end after Ok, and the old ones stand after every other answer but `Disk`.
-        ensures held { D.is_told → (IsErrOf result AppendFault.Disk → ⊥) → (payloads : _) → Holds self.old payloads (D.state disk.old)
-            → Holds self.new (appended result payloads payload.now) (D.state disk.new) }
+        ensures held { D.is_told → (IsErrOf result AppendFault.Disk → ⊥) → (payloads : _) → HoldsPayloads self.old payloads (D.state disk.old)
+            → HoldsPayloads self.new (payloads_after result payloads payload.now) (D.state disk.new) }
         ensures others { D.is_told → OthersStay self.old.part (D.state disk.old) (D.state disk.new) }
 
         // A crash at any moment of the call leaves the payloads from before it, with the new one or without.
-        ensures any_moment { D.is_told → self.old.is_down ≡ false → (payloads : _) → Holds self.old payloads (D.state disk.old)
+        ensures any_moment { D.is_told → self.old.is_down ≡ false → (payloads : _) → HoldsPayloads self.old payloads (D.state disk.old)
             → LeavesOnly D.past D.state disk.old disk.new (HoldsOldOrNew self.old.part self.old.limit payloads payload.now (D.state disk.old)) }
         // Once it has answered, the answer says which.
-        ensures left { D.is_told → self.old.is_down ≡ false → (payloads : _) → Holds self.old payloads (D.state disk.old)
+        ensures left { D.is_told → self.old.is_down ≡ false → (payloads : _) → HoldsPayloads self.old payloads (D.state disk.old)
             → (image : _) → MayLeave (D.state disk.new) image → LeftAfter result self.old.limit payloads payload.now (image self.old.part) }
         // Where the journal is down, a crash leaves what it could leave before.
         ensures down_moment { D.is_told → self.old.is_down ≡ true → LeavesOnly D.past D.state disk.old disk.new (MayLeave (D.state disk.old)) }
@@ -199,14 +203,28 @@ impl Journal {
 
     /// False after a load, and true from an answer `Disk` of `append` on.
     pub fn is_down(&self) -> bool
-        ensures { result ≡ self.now.is_down }
+        ensures value { result ≡ self.now.is_down }
     {
         self.down
     }
 
+    /// The part on which it stands.
+    pub fn part(&self) -> Part
+        ensures value { result ≡ self.now.part }
+    {
+        self.part
+    }
+
+    /// The greatest length in bytes that it may have.
+    pub fn limit(&self) -> u64
+        ensures value { result ≡ self.now.limit }
+    {
+        self.limit
+    }
+
     /// The number of bytes of the header, the records and the closed gate.
     pub fn length(&self) -> u64
-        ensures { result ≡ self.now.length }
+        ensures value { result ≡ self.now.length }
     {
         self.length
     }

@@ -1,4 +1,7 @@
-// The numbers of the format.
+//! The layout of a part: the name, the limits, the places and lengths in bytes, and the bytes of a gate.
+
+/// The name of the format, with which each journal begins.
+pub const NAME: [u8; 8] = *b"SALTJNL1";
 
 /// The least limit of a journal, in bytes.
 pub const LEAST_LIMIT: u64 = 64;

@@ -1,7 +1,7 @@
-// Payloads, and the places of their gates.
+//! Payloads, and the places of their gates.
 ghost use Rattle.std.specs.Prelude.{◌≡◌, ◌≤◌, ◌<◌, ◌+◌, ◌↔◌, [], ◌∷◌, ◌++◌, length, IsTrue, IsNone, IfSome, IfNone, OnOk, OnErr};
 ghost use Rattle.gate_journal.specs.Journal.{records};
-ghost use Rattle.gate_journal.specs.Payloads.{place_of};
+ghost use Rattle.gate_journal.specs.Payloads.{gate_place};
 
 use std::alloc::{AllocError, Global};
 use std::marker::Model;
@@ -93,7 +93,7 @@ impl Payloads {
     /// The place of the gate of record `i`, counted from 0, in bytes from the beginning of the part. None
     /// exactly past the last record.
     pub fn place(&self, i: usize) -> Option<u64>
-        ensures some { i < length self.now.items → result ≡ Some (place_of self.now i) }
+        ensures some { i < length self.now.items → result ≡ Some (gate_place self.now i) }
         ensures none { length self.now.items ≤ i → result ≡ None }
     {
         self.places.get(i).copied()

@@ -1,17 +1,17 @@
-// Reads the bytes of a part, in one pass.
+//! Reads the bytes of a part, in one pass.
 ghost use Rattle.std.specs.Prelude.{◌≡◌, ◌≢◌, ◌⊎◌, ◌<◌, ◌≤◌, ◌+◌, ◌-◌, ◌^◌, [], ◌∷◌, ◌++◌, List, ℕ, length, take, drop, MatchOption, IfOk, OnOk, IsErrOf};
 ghost use Rattle.gate_journal.specs.declared.read.ReadFault.TheVariants.{NoMemory};
 ghost use Rattle.salt_disk.specs.Disk.{part_of, IsSettled, Stays};
 ghost use Rattle.salt_disk.specs.Crash.{LeavesOnly, MayLeave, OthersStay};
-ghost use Rattle.salt_disk.specs.Causes.{HasCause};
-ghost use Rattle.salt_disk.specs.Fuse.{Burns, Lasts};
+ghost use Rattle.salt_outside.specs.Causes.{CountsFaults};
+ghost use Rattle.salt_disk.specs.Fuse.{Passes, burnt, Lasts};
 ghost use Rattle.byteorder.specs.Endian.{big_bytes};
 ghost use Rattle.gate_journal.specs.Layout.{least_limit, greatest_limit, first_gate, fresh_length, record_overhead};
 ghost use Rattle.gate_journal.specs.Journal.{IsJournal, records, header, journal_length};
 ghost use Rattle.gate_journal.specs.Read.{IsNoJournal, IsBroken, IsDamagedAt};
 
 use crate::{
-    FIRST_GATE, GREATEST_LIMIT, HEADER_BYTES, LEAST_LIMIT, OPEN_GATE, Payload, Payloads,
+    FIRST_GATE, GREATEST_LIMIT, HEADER_BYTES, LEAST_LIMIT, NAME, OPEN_GATE, Payload, Payloads,
     RECORD_OVERHEAD,
 };
 use salt_disk::{Disk, DiskFault, Part};
@@ -46,7 +46,7 @@ fn read_header(bytes: &[u8]) -> Option<u64>
     let Some((limit, _)) = rest.split_first_chunk::<8>() else {
         return None;
     };
-    if name.as_slice() != b"SALTJNL1".as_slice() {
+    if name.as_slice() != NAME.as_slice() {
         return None;
     }
     let limit = u64::from_be_bytes(*limit);
@@ -99,8 +99,9 @@ pub fn read_synced<D: Disk>(alloc: Global, disk: &mut D, part: Part) -> Result<V
     ensures same { D.is_told → (part_of (D.state disk.new) part).bytes ≡ (part_of (D.state disk.old) part).bytes }
     ensures others { D.is_told → OthersStay part (D.state disk.old) (D.state disk.new) }
     ensures any_moment { D.is_told → LeavesOnly D.past D.state disk.old disk.new (MayLeave (D.state disk.old)) }
-    ensures fuse { D.is_told → Burns 1 (D.fuse disk.old) (D.fuse disk.new) result }
-    ensures cause { HasCause (D.faults disk.old) (D.faults disk.new) result }
+    ensures passed { D.is_told → (IsErrOf result DiskFault.Failed → ⊥) → Passes 1 (D.fuse disk.old) × (D.fuse disk.new ≡ burnt 1 (D.fuse disk.old)) }
+    ensures not_passed { D.is_told → IsErrOf result DiskFault.Failed → Passes 1 (D.fuse disk.old) → ⊥ }
+    ensures faults { CountsFaults (IsErrOf result DiskFault.Failed) (D.faults disk.old) (D.faults disk.new) }
 {
     disk.sync(part)?;
     read_part(alloc, disk, part)
@@ -111,7 +112,7 @@ fn read_part<D: Disk>(alloc: Global, disk: &mut D, part: Part) -> Result<Vec<u8>
     ensures bytes { D.is_told → IfOk result (λ bytes. bytes.items ≡ (part_of (D.state disk.old) part).bytes) }
     ensures same { D.is_told → Stays (D.state disk.old) (D.state disk.new) (D.past disk.old) (D.past disk.new) }
     ensures fuse { D.is_told → Lasts (D.fuse disk.old) (D.fuse disk.new) result }
-    ensures cause { HasCause (D.faults disk.old) (D.faults disk.new) result }
+    ensures faults { CountsFaults (IsErrOf result DiskFault.Failed) (D.faults disk.old) (D.faults disk.new) }
 {
     let len = disk.len(part)?;
     let mut bytes = vec![in alloc; 0; len as usize]?;

@@ -1,27 +1,60 @@
-// Writes a header, and a record.
+//! Writes a header, and a record.
 ghost use Rattle.std.specs.Prelude.{◌≡◌, ◌<◌, ◌≤◌, ◌+◌, ◌^◌, ◌∷◌, ◌++◌, [], List, ℕ, length, drop, IfOk, OnOk, IsErrOf};
 ghost use Rattle.salt_disk.specs.Disk.{part_of, IsSettled};
 ghost use Rattle.salt_disk.specs.Crash.{LeavesOnly, OthersStay};
-ghost use Rattle.salt_disk.specs.Causes.{HasCause};
+ghost use Rattle.salt_outside.specs.Causes.{CountsFaults};
 ghost use Rattle.salt_disk.specs.Fuse.{Burns};
+ghost use Rattle.byteorder.specs.Endian.{big_bytes};
 ghost use Rattle.gate_journal.specs.Layout.{least_limit, greatest_limit, fresh_length, record_overhead, closed_gate};
-ghost use Rattle.gate_journal.specs.Journal.{Rests, IsNext, HoldsOldOrNew, StoppedAppend, header, tail_of};
+ghost use Rattle.gate_journal.specs.Journal.{Rests, IsNext, HoldsOldOrNew, StoppedAppend, header, fresh_journal, record_of, tail_of};
 ghost use Rattle.gate_journal.specs.Fresh.{HoldsNothing};
 
-use crate::{CLOSED_GATE, HEADER_BYTES, OPEN_GATE, RECORD_OVERHEAD};
+use crate::{CLOSED_GATE, HEADER_BYTES, NAME, OPEN_GATE, RECORD_OVERHEAD};
 use byteorder::{BigEndian, ByteOrder};
 use salt_disk::{Disk, DiskFault, Part, write_through};
 use std::alloc::{AllocError, Global};
+
+/// The header of a journal of this limit: the name of the format, and the limit with its high byte first. A limit
+/// outside `LEAST_LIMIT` to `GREATEST_LIMIT` has a header too, and no journal begins with it.
+pub fn header_bytes(limit: u64) -> [u8; HEADER_BYTES]
+    ensures value { result ≡ header limit }
+{
+    let mut bytes = [0; HEADER_BYTES];
+    bytes[..8].copy_from_slice(&NAME);
+    BigEndian::write_u64(&mut bytes[8..], limit);
+    bytes
+}
+
+/// A record of this payload: an open gate, the payload's length with its high byte first, and the payload, which has to
+/// be under 2^32 bytes.
+pub fn record_bytes(alloc: Global, payload: &[u8]) -> Result<Vec<u8>, AllocError>
+    requires { length payload.now < 2 ^ 32 }
+    ensures ok { IfOk result (λ bytes. bytes.items ≡ record_of payload.now) }
+{
+    let mut bytes = Vec::with_capacity(alloc, payload.len() + RECORD_OVERHEAD as usize)?;
+    bytes.push(OPEN_GATE)?;
+    bytes.extend_from_slice(&length_bytes(payload))?;
+    bytes.extend_from_slice(payload)?;
+    Ok(bytes)
+}
+
+// The length of a payload, its high byte first.
+fn length_bytes(payload: &[u8]) -> [u8; 4]
+    requires { length payload.now < 2 ^ 32 }
+    ensures value { result ≡ big_bytes 4 (length payload.now) }
+{
+    let mut bytes = [0; 4];
+    BigEndian::write_u32(&mut bytes, payload.len() as u32);
+    bytes
+}
 
 // What stands behind the gate of a record, with a closed gate at its end.
 pub fn body_of(alloc: Global, payload: &[u8]) -> Result<Vec<u8>, AllocError>
     requires { length payload.now < 2 ^ 32 }
     ensures { IfOk result (λ body. body.items ≡ tail_of payload.now) }
 {
-    let mut length = [0; 4];
-    BigEndian::write_u32(&mut length, payload.len() as u32);
     let mut body = Vec::with_capacity(alloc, payload.len() + RECORD_OVERHEAD as usize)?;
-    body.extend_from_slice(&length)?;
+    body.extend_from_slice(&length_bytes(payload))?;
     body.extend_from_slice(payload)?;
     body.push(CLOSED_GATE)?;
     Ok(body)
@@ -42,7 +75,7 @@ pub fn store<D: Disk>(disk: &mut D, part: Part, len: u64, body: &[u8]) -> Result
         → StoppedAppend part limit len payloads payload (D.fuse disk.old) (D.state disk.new) }
     ensures fuse { D.is_told → Burns 4 (D.fuse disk.old) (D.fuse disk.new) result }
     ensures others { D.is_told → OthersStay part (D.state disk.old) (D.state disk.new) }
-    ensures cause { HasCause (D.faults disk.old) (D.faults disk.new) result }
+    ensures faults { CountsFaults (IsErrOf result DiskFault.Failed) (D.faults disk.old) (D.faults disk.new) }
 {
     write_through(disk, part, len, body)?;
     write_through(disk, part, len - 1, &[OPEN_GATE])
@@ -55,22 +88,22 @@ pub fn write_header<D: Disk>(disk: &mut D, part: Part, limit: u64) -> Result<(),
     requires settled { D.is_told → IsSettled (part_of (D.state disk.old) part) }
     requires short { D.is_told → length (part_of (D.state disk.old) part).bytes ≤ fresh_length }
     ensures made { D.is_told → OnOk result (Rests limit fresh_length [] (part_of (D.state disk.new) part)) }
+    ensures bytes { D.is_told → OnOk result ((part_of (D.state disk.new) part).bytes ≡ fresh_journal limit) }
     ensures others { D.is_told → OthersStay part (D.state disk.old) (D.state disk.new) }
     ensures any_moment { D.is_told → LeavesOnly D.past D.state disk.old disk.new (HoldsNothing part (D.state disk.old)) }
     ensures fuse { D.is_told → Burns 4 (D.fuse disk.old) (D.fuse disk.new) result }
-    ensures cause { HasCause (D.faults disk.old) (D.faults disk.new) result }
+    ensures faults { CountsFaults (IsErrOf result DiskFault.Failed) (D.faults disk.old) (D.faults disk.new) }
 {
     write_through(disk, part, 0, &header_but_one(limit))?;
-    write_through(disk, part, 0, b"S")
+    write_through(disk, part, 0, &NAME[..1])
 }
 
 // The bytes of an empty journal, with a 0 in place of the first.
 fn header_but_one(limit: u64) -> [u8; HEADER_BYTES + 1]
     ensures { result ≡ 0 ∷ (drop 1 (header limit) ++ closed_gate ∷ []) }
 {
-    let mut bytes = [
-        0, b'A', b'L', b'T', b'J', b'N', b'L', b'1', 0, 0, 0, 0, 0, 0, 0, 0, 0,
-    ];
-    BigEndian::write_u64(&mut bytes[8..], limit);
+    let mut bytes = [0; HEADER_BYTES + 1];
+    bytes[1..HEADER_BYTES].copy_from_slice(&header_bytes(limit)[1..]);
+    bytes[HEADER_BYTES] = CLOSED_GATE;
     bytes
 }

@@ -2,7 +2,7 @@
 use Rattle.std.proofs.Common.{◌⊎◌, inl, inr, ⊎_elim, ℕ, ◌≤◌, List, [], ◌∷◌, ◌++◌, length, drop, refl, sym, ◌∙◌, ap, subst, arith, append_assoc, length-append}
 use Rattle.std.proofs.lemmas.List.{append-nil, drop_at, drop-append-le}
 use Rattle.salt_disk.specs.Disk.{DiskState, Stays}
-use Rattle.salt_disk.specs.Crash.{Image, MayLeave, LeavesTheSame, GoesOn, OneMayLeave, LeavesOnly}
+use Rattle.salt_disk.specs.Crash.{Image, MayLeave, LeavesTheSame, PassesTime, OneMayLeave, LeavesOnly}
 
 one_of : (xs ys : List DiskState) (image : Image) → OneMayLeave (xs ++ ys) image → OneMayLeave xs image ⊎ OneMayLeave ys image
 one_of [] ys image one = inr one
@@ -22,7 +22,7 @@ pub leaves_itself : (disk : DiskState) → LeavesTheSame disk disk
 leaves_itself disk = record { later = λ image may. may; earlier = λ image may. may }
 
 -- a disk that stays as it was goes on
-pub stays_on : (old new : DiskState) (past since : List DiskState) → Stays old new past since → GoesOn old new past since
+pub stays_on : (old new : DiskState) (past since : List DiskState) → Stays old new past since → PassesTime old new past since
 stays_on old new past since stays = inr (record { time = stays.time; same = subst (λ (d : DiskState). LeavesTheSame old d) (sym stays.state) (leaves_itself old) })
 
 module _ {D : Type 0} (past : D → List DiskState) (state : D → DiskState) where
@@ -53,7 +53,7 @@ module _ {D : Type 0} (past : D → List DiskState) (state : D → DiskState) wh
           (sym (drop_at (past mid) second.since (length (past mid)) refl) ∙ ap (λ (l : List DiskState). drop (length (past mid)) l) (sym second.later)) one)))
 
   -- one call
-  pub one_call : (old new : D) (P : Image → Type 0) → GoesOn (state old) (state new) (past old) (past new)
+  pub one_call : (old new : D) (P : Image → Type 0) → PassesTime (state old) (state new) (past old) (past new)
       → ((image : Image) → MayLeave (state old) image → P image) → ((image : Image) → MayLeave (state new) image → P image) → LeavesOnly past state old new P
   one_call old new P (inl adds) before after = record {
     since = adds.moment ∷ [];
@@ -72,7 +72,7 @@ module _ {D : Type 0} (past : D → List DiskState) (state : D → DiskState) wh
   }
 
   -- one call more
-  pub goes_on : (old mid new : D) (P : Image → Type 0) → LeavesOnly past state old mid P → GoesOn (state mid) (state new) (past mid) (past new)
+  pub goes_on : (old mid new : D) (P : Image → Type 0) → LeavesOnly past state old mid P → PassesTime (state mid) (state new) (past mid) (past new)
       → ((image : Image) → MayLeave (state new) image → P image) → LeavesOnly past state old new P
   goes_on old mid new P so_far time here =
       joins old mid new P P P so_far (one_call mid new P time (λ image now. so_far.each image (inl now)) here) (λ image p. p) (λ image p. p)

@@ -13,15 +13,15 @@ use Rattle.salt_disk.specs.declared.disk.Range.{Range}
 use Rattle.salt_disk.specs.Disk.{PartState, DiskState, part_of, settled, put, ranges_of, IsWritten, Changes, IsHonest}
 use Rattle.salt_disk.specs.Crash.{Image, IsWithin, IsPartImage, MayLeave, LeavesTheSame}
 use Rattle.salt_disk.specs.Memory.{IsPicked}
-use Rattle.salt_disk.specs.History.{with_part, wrote, emptied, step, states, after, LeadsTo, Replays, is_calm, owed, owed_by, is_write, IsBounded, IsRecorded}
+use Rattle.salt_disk.specs.History.{with_part, wrote, emptied, step, states, replay, LeadsTo, Replays, is_calm, owed, owed_by, is_write, IsBounded, IsRecorded}
 use Rattle.salt_disk.proofs.Moments.{leaves_itself}
 use Rattle.salt_disk.proofs.Torn.{length-put}
 
-after-push : (first : DiskState) (calls : List Call) (call : Call) → after first (calls ++ call ∷ []) ≡ step (after first calls) call
+after-push : (first : DiskState) (calls : List Call) (call : Call) → replay first (calls ++ call ∷ []) ≡ step (replay first calls) call
 after-push first [] call = refl
 after-push first (c ∷ calls) call = after-push (step first c) calls call
 
-states-push : (first : DiskState) (calls : List Call) (call : Call) → states first (calls ++ call ∷ []) ≡ states first calls ++ after first calls ∷ []
+states-push : (first : DiskState) (calls : List Call) (call : Call) → states first (calls ++ call ∷ []) ≡ states first calls ++ replay first calls ∷ []
 states-push first [] call = refl
 states-push first (c ∷ calls) call = ap (λ (l : List DiskState). first ∷ l) (states-push (step first c) calls call)
 
@@ -60,11 +60,11 @@ pub recorded : (old new : DiskState) (calls since : List Call) (call : Call) →
     → ((first : DiskState) → IsBounded first calls old → IsBounded first (calls ++ call ∷ []) new)
     → IsRecorded old new calls since
 recorded old new calls since call honest is stepped bounded = record {
-  kept = λ first leads. subst (λ (d : DiskState). Replays d new) (sym (ap (λ (l : List Call). after first l) is ∙ after-push first calls call)) (stepped (after first calls) leads);
+  kept = λ first leads. subst (λ (d : DiskState). Replays d new) (sym (ap (λ (l : List Call). replay first l) is ∙ after-push first calls call)) (stepped (replay first calls) leads);
   time = λ first leads. inl (record {
-    moment = after first calls;
+    moment = replay first calls;
     time = ap (λ (l : List Call). states first l) is ∙ states-push first calls call;
-    same = led_same (after first calls) old leads honest;
+    same = led_same (replay first calls) old leads honest;
   });
   bounded = λ first within. subst (λ (l : List Call). IsBounded first l new) (sym is) (bounded first within);
 }
@@ -74,7 +74,7 @@ pub not_recorded : (old new : DiskState) (calls : List Call)
     → ((replayed : DiskState) → Replays replayed old → Replays replayed new)
     → LeavesTheSame old new → owed_by new ≤ owed_by old → IsRecorded old new calls calls
 not_recorded old new calls kept same less = record {
-  kept = λ first leads. kept (after first calls) leads;
+  kept = λ first leads. kept (replay first calls) leads;
   time = λ first leads. inr (record { time = refl; same = same });
   bounded = λ first within. omega (arith, within, less);
 }

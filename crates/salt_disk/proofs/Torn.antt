@@ -6,8 +6,7 @@ use Rattle.salt_disk.specs.declared.disk.Part.TheVariants.{Root, Even, Odd}
 use Rattle.salt_disk.specs.declared.disk.DiskFault.{DiskFault}
 use Rattle.salt_disk.specs.declared.disk.DiskFault.TheVariants.{NoMemory, Failed}
 use Rattle.salt_disk.specs.declared.disk.Range.{Range}
-use Rattle.salt_disk.specs.Causes.{UnlessNoMemory}
-use Rattle.salt_disk.specs.Disk.{PartState, DiskState, part_of, settled, IsSettled, put, ranges_of, IsWritten, Changes, Stays, IsHonest}
+use Rattle.salt_disk.specs.Disk.{PartState, DiskState, part_of, settled, IsSettled, put, ranges_of, IsWritten, Changes, Stays, IsHonest, UnlessNoMemory}
 use Rattle.salt_disk.specs.Crash.{Image, IsWithin, IsPartImage, MayLeave, IsTorn, OthersMayLeave, WritesOnly, OthersStay}
 
 pub unless_either : {T : Type 0} (r : Result T DiskFault) (A B : Type 0) → UnlessNoMemory r A B → A ⊎ B

@@ -41,8 +41,8 @@ pub record StandsStill (old new : DiskState) (past since : List DiskState) : Typ
   pub same : LeavesTheSame old new
 
 -- time goes on by one moment, or it stands still where no image changes
-abbrev pub GoesOn : DiskState → DiskState → List DiskState → List DiskState → Type 0
-GoesOn old new past since = AddsMoment old past since ⊎ StandsStill old new past since
+abbrev pub PassesTime : DiskState → DiskState → List DiskState → List DiskState → Type 0
+PassesTime old new past since = AddsMoment old past since ⊎ StandsStill old new past since
 
 -- a crash in one of these states may leave this
 abbrev pub OneMayLeave : List DiskState → Image → Type 0

@@ -1,5 +1,7 @@
 -- What a disk tells of its three parts, and what its calls do to them.
-use Rattle.std.specs.Prelude.{◌≡◌, ◌≢◌, ◌⊎◌, ◌<◌, ◌≤◌, ◌+◌, ℕ, max, List, [], ◌∷◌, ◌++◌, length, take, drop, slice_index}
+use Rattle.std.specs.Prelude.{◌≡◌, ◌≢◌, ◌⊎◌, ◌<◌, ◌≤◌, ◌+◌, ℕ, max, List, [], ◌∷◌, ◌++◌, length, take, drop, slice_index, Result, Ok, Err}
+use Rattle.salt_disk.specs.declared.disk.DiskFault.{DiskFault}
+use Rattle.salt_disk.specs.declared.disk.DiskFault.TheVariants.{NoMemory, Failed}
 use Rattle.salt_disk.specs.declared.disk.Part.{Part}
 use Rattle.salt_disk.specs.declared.disk.Part.TheVariants.{Root, Even, Odd}
 use Rattle.salt_disk.specs.declared.disk.Range.{Range}
@@ -48,7 +50,7 @@ pub record IsWritten (at : ℕ) (bytes : List ℕ) (old new : PartState) : Type 
   pub elsewhere : (place : ℕ) → (place < at) ⊎ (at + length bytes ≤ place) → slice_index new.bytes place ≡ slice_index old.bytes place
 
 -- a cut to nothing, whether it went well or not
-pub record IsCut (old new : PartState) : Type 0 where
+pub record IsEmptied (old new : PartState) : Type 0 where
   pub unsure : new.unsure ≡ old.unsure
   pub least : new.least ≡ 0
   pub greatest : new.greatest ≡ old.greatest
@@ -70,3 +72,9 @@ read_from bytes at count = take count (drop at bytes)
 -- what a read gives has a length that a crash may leave
 abbrev pub IsHonest : DiskState → Type 0
 IsHonest disk = (part : Part) → ((part_of disk part).least ≤ length (part_of disk part).bytes) × (length (part_of disk part).bytes ≤ (part_of disk part).greatest)
+
+-- what stands after want of memory, and what after every other answer
+abbrev pub UnlessNoMemory : {T : Type 0} → Result T DiskFault → Type 0 → Type 0 → Type 0
+UnlessNoMemory (Ok value) stays changes = changes
+UnlessNoMemory (Err NoMemory) stays changes = stays
+UnlessNoMemory (Err Failed) stays changes = changes

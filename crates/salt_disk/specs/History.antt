@@ -5,7 +5,7 @@ use Rattle.salt_disk.specs.declared.disk.Part.TheVariants.{Root, Even, Odd}
 use Rattle.salt_disk.specs.declared.call.Call.{Call}
 use Rattle.salt_disk.specs.declared.call.Call.TheVariants.{Write, Cut, Sync}
 use Rattle.salt_disk.specs.Disk.{PartState, DiskState, part_of, settled, put, ranges_of}
-use Rattle.salt_disk.specs.Crash.{GoesOn}
+use Rattle.salt_disk.specs.Crash.{PassesTime}
 
 -- the disk with this state of one part
 abbrev pub with_part : DiskState → Part → PartState → DiskState
@@ -38,9 +38,9 @@ states disk [] = []
 states disk (call ∷ calls) = disk ∷ states (step disk call) calls
 
 -- the state after all of them
-abbrev pub after : DiskState → List Call → DiskState
-after disk [] = disk
-after disk (call ∷ calls) = after (step disk call) calls
+abbrev pub replay : DiskState → List Call → DiskState
+replay disk [] = disk
+replay disk (call ∷ calls) = replay (step disk call) calls
 
 -- The calls of the record lead to this part, but that they may leave more bytes behind its end, where a cut that changes no image was made.
 pub record LeadsTo (replayed part : PartState) : Type 0 where
@@ -89,6 +89,6 @@ IsBounded first calls disk = length calls + owed_by disk ≤ most_entries first 
 
 -- the record of calls goes on with the disk, from whatever state it began
 pub record IsRecorded (old new : DiskState) (calls since : List Call) : Type 0 where
-  pub kept : (first : DiskState) → Replays (after first calls) old → Replays (after first since) new
-  pub time : (first : DiskState) → Replays (after first calls) old → GoesOn old new (states first calls) (states first since)
+  pub kept : (first : DiskState) → Replays (replay first calls) old → Replays (replay first since) new
+  pub time : (first : DiskState) → Replays (replay first calls) old → PassesTime old new (states first calls) (states first since)
   pub bounded : (first : DiskState) → IsBounded first calls old → IsBounded first since new

@@ -1,3 +1,4 @@
+//! A record of calls.
 use crate::Part;
 
 /// A call that changed what a crash may leave, as a disk in memory records it.

@@ -1,9 +1,9 @@
-// A disk of three files: the trait, its parts and its faults.
+//! A disk of three files: the trait, its parts and its faults.
 ghost use Rattle.std.specs.Prelude.{◌≡◌, ◌⊎◌, ◌≤◌, ◌-◌, ◌+◌, List, ℕ, [], ◌∷◌, ◌++◌, length, take, drop, min, IfOk, OnOk, OnErr, IsErrOf};
 ghost use Rattle.salt_disk.specs.declared.disk.DiskFault.TheVariants.{NoMemory};
-ghost use Rattle.salt_disk.specs.Disk.{DiskState, PartState, part_of, settled, put, IsWritten, IsCut, Changes, Stays, IsHonest, read_from};
-ghost use Rattle.salt_disk.specs.Crash.{GoesOn, LeavesTheSame};
-ghost use Rattle.salt_disk.specs.Causes.{HasCause, UnlessNoMemory};
+ghost use Rattle.salt_disk.specs.Disk.{DiskState, PartState, part_of, settled, put, IsWritten, IsEmptied, Changes, Stays, IsHonest, read_from, UnlessNoMemory};
+ghost use Rattle.salt_disk.specs.Crash.{PassesTime, LeavesTheSame};
+ghost use Rattle.salt_outside.specs.Causes.{CountsFaults};
 ghost use Rattle.salt_disk.specs.declared.disk.Fuse.{Fuse};
 ghost use Rattle.salt_disk.specs.Fuse.{Burns, Lasts};
 
@@ -75,57 +75,58 @@ pub trait Disk {
     /// How often a call has failed.
     ghost faults: { Self → ℕ };
 
-    /// The number of bytes of the part.
+    /// The number of bytes of the part. A disk that answers it is as it was, whether it tells what it holds or not.
     fn len(&mut self, part: Part) -> Result<u64, DiskFault>
-        ensures length { is_told → IfOk result (λ n. n ≡ length (part_of (state self.old) part).bytes) }
+        ensures ok { is_told → IfOk result (λ n. n ≡ length (part_of (state self.old) part).bytes) }
+        ensures disk { OnOk result (self.new ≡ self.old) }
         ensures same { is_told → Stays (state self.old) (state self.new) (past self.old) (past self.new) }
         ensures memory { IsErrOf result NoMemory → ⊥ }
         ensures fuse { is_told → Lasts (fuse self.old) (fuse self.new) result }
-        ensures cause { HasCause (faults self.old) (faults self.new) result };
+        ensures faults { CountsFaults (IsErrOf result DiskFault.Failed) (faults self.old) (faults self.new) };
 
     /// Reads the bytes that are there from the place `at` on, as far as `into` goes, and answers their number.
     /// After an error `into` may hold anything.
     fn read(&mut self, part: Part, at: u64, into: &mut [u8]) -> Result<usize, DiskFault>
         ensures room { IfOk result (λ n. n ≤ length into.old) }
-        ensures bytes { is_told → IfOk result (λ n.
+        ensures ok { is_told → IfOk result (λ n.
             (n ≡ min (length into.old) (length (part_of (state self.old) part).bytes - at))
             × (into.new ≡ read_from (part_of (state self.old) part).bytes at n ++ drop n into.old)) }
         ensures same { is_told → Stays (state self.old) (state self.new) (past self.old) (past self.new) }
         ensures memory { IsErrOf result NoMemory → ⊥ }
         ensures fuse { is_told → Lasts (fuse self.old) (fuse self.new) result }
-        ensures cause { HasCause (faults self.old) (faults self.new) result };
+        ensures faults { CountsFaults (IsErrOf result DiskFault.Failed) (faults self.old) (faults self.new) };
 
     /// Writes these bytes at the place `at`, over what is there and past the end. After `Failed` the range
     /// may hold anything; after `NoMemory` nothing was changed.
     fn write_at(&mut self, part: Part, at: u64, bytes: &[u8]) -> Result<(), DiskFault>
         requires { is_told → at ≤ length (part_of (state self.old) part).bytes }
-        ensures written { is_told → OnOk result ((part_of (state self.new) part).bytes ≡ put at bytes.now (part_of (state self.old) part).bytes) }
+        ensures ok { is_told → OnOk result ((part_of (state self.new) part).bytes ≡ put at bytes.now (part_of (state self.old) part).bytes) }
         ensures crash { is_told → UnlessNoMemory result (Stays (state self.old) (state self.new) (past self.old) (past self.new))
             (Changes part (IsWritten at bytes.now) (state self.old) (state self.new)) }
-        ensures time { is_told → GoesOn (state self.old) (state self.new) (past self.old) (past self.new) }
+        ensures time { is_told → PassesTime (state self.old) (state self.new) (past self.old) (past self.new) }
         ensures fuse { is_told → Burns 1 (fuse self.old) (fuse self.new) result }
         ensures fuse_memory { is_told → IsErrOf result NoMemory → fuse self.new ≡ fuse self.old }
-        ensures cause { HasCause (faults self.old) (faults self.new) result };
+        ensures faults { CountsFaults (IsErrOf result DiskFault.Failed) (faults self.old) (faults self.new) };
 
     /// Makes the part empty. After `Failed` a crash may leave it empty or as it was.
     fn cut(&mut self, part: Part) -> Result<(), DiskFault>
-        ensures cut { is_told → OnOk result ((part_of (state self.new) part).bytes ≡ []) }
-        ensures crash { is_told → Changes part IsCut (state self.old) (state self.new) }
-        ensures time { is_told → GoesOn (state self.old) (state self.new) (past self.old) (past self.new) }
+        ensures ok { is_told → OnOk result ((part_of (state self.new) part).bytes ≡ []) }
+        ensures crash { is_told → Changes part IsEmptied (state self.old) (state self.new) }
+        ensures time { is_told → PassesTime (state self.old) (state self.new) (past self.old) (past self.new) }
         ensures still { is_told → LeavesTheSame (state self.old) (state self.new) → past self.new ≡ past self.old }
         ensures memory { IsErrOf result NoMemory → ⊥ }
         ensures fuse { is_told → Burns 1 (fuse self.old) (fuse self.new) result }
-        ensures cause { HasCause (faults self.old) (faults self.new) result };
+        ensures faults { CountsFaults (IsErrOf result DiskFault.Failed) (faults self.old) (faults self.new) };
 
     /// Brings the part to rest: after it, a crash leaves what a read gives. After `Failed` all is as it was.
     fn sync(&mut self, part: Part) -> Result<(), DiskFault>
-        ensures synced { is_told → OnOk result (Changes part (λ old new. new ≡ settled old.bytes) (state self.old) (state self.new)) }
-        ensures failed { is_told → OnErr result (Stays (state self.old) (state self.new) (past self.old) (past self.new)) }
-        ensures time { is_told → GoesOn (state self.old) (state self.new) (past self.old) (past self.new) }
+        ensures ok { is_told → OnOk result (Changes part (λ old new. new ≡ settled old.bytes) (state self.old) (state self.new)) }
+        ensures err { is_told → OnErr result (Stays (state self.old) (state self.new) (past self.old) (past self.new)) }
+        ensures time { is_told → PassesTime (state self.old) (state self.new) (past self.old) (past self.new) }
         ensures still { is_told → LeavesTheSame (state self.old) (state self.new) → past self.new ≡ past self.old }
         ensures memory { IsErrOf result NoMemory → ⊥ }
         ensures fuse { is_told → Burns 1 (fuse self.old) (fuse self.new) result }
-        ensures cause { HasCause (faults self.old) (faults self.new) result };
+        ensures faults { CountsFaults (IsErrOf result DiskFault.Failed) (faults self.old) (faults self.new) };
 
     /// A disk as it reads is one of its own images.
     ghost honest: { (disk : Self) → is_told → IsHonest (state disk) };

@@ -1,6 +1,6 @@
-// When the calls of a disk in memory fail.
-ghost use Rattle.std.specs.Prelude.{◌≡◌, ◌≤◌, IsErrOf};
-ghost use Rattle.salt_disk.specs.Causes.{HasCause, Rose};
+//! When the calls of a disk in memory fail.
+ghost use Rattle.std.specs.Prelude.{◌≡◌, ◌≤◌, OnOk, IsErrOf};
+ghost use Rattle.salt_outside.specs.Causes.{next_count, CountsFaults};
 ghost use Rattle.salt_disk.specs.Fuse.{Burns, Lasts};
 
 use crate::{DiskFault, Fuse};
@@ -14,8 +14,9 @@ pub struct Faults {
 impl Faults {
     /// A call that changes nothing: it fails where the fuse is out.
     pub fn pass(&mut self) -> Result<(), DiskFault>
+        ensures ok { OnOk result (self.new ≡ self.old) }
         ensures fuse { Lasts self.old.fuse self.new.fuse result }
-        ensures cause { HasCause self.old.count self.new.count result }
+        ensures faults { CountsFaults (IsErrOf result DiskFault.Failed) self.old.count self.new.count }
         ensures memory { IsErrOf result DiskFault.NoMemory → ⊥ }
     {
         match self.fuse {
@@ -27,7 +28,7 @@ impl Faults {
     /// A changing call: it burns the fuse by one, and fails where there is nothing left of it.
     pub fn burn(&mut self) -> Result<(), DiskFault>
         ensures fuse { Burns 1 self.old.fuse self.new.fuse result }
-        ensures cause { HasCause self.old.count self.new.count result }
+        ensures faults { CountsFaults (IsErrOf result DiskFault.Failed) self.old.count self.new.count }
         ensures memory { IsErrOf result DiskFault.NoMemory → ⊥ }
     {
         match self.fuse {
@@ -44,9 +45,9 @@ impl Faults {
     }
 
     fn failed(&mut self) -> DiskFault
-        ensures fault { result ≡ DiskFault.Failed }
+        ensures value { result ≡ DiskFault.Failed }
         ensures later { self.old.count ≤ self.new.count }
-        ensures rose { Rose self.old.count self.new.count }
+        ensures count { self.new.count ≡ next_count self.old.count }
         ensures fuse { self.new.fuse ≡ self.old.fuse }
     {
         self.count = self.count.saturating_add(1);

@@ -1,5 +1,10 @@
 //! A disk of three files: what its calls do, and what a crash may leave at each moment. `Disk` is the trait,
-//! `MemDisk` a disk in memory, and `write_through` a write that is at rest once it answers.
+//! `MemDisk` a disk in memory, and `write_through` a write that is at rest once it answers. The disk and its crashes are
+//! this project's own.
+//!
+//! ```
+//! write_through(&mut disk, Part::Even, 0, b"one ping")?;
+//! ```
 #![tactic(auto)]
 
 mod call;
@@ -12,6 +17,3 @@ mod through;
 pub use disk::{Disk, DiskFault, Fuse, Part, Range};
 pub use memory::MemDisk;
 pub use through::write_through;
-
-#[cfg(test)]
-mod tests;

@@ -1,8 +1,8 @@
-// A disk in memory. It keeps a record of its changing calls, from which what a crash might have left follows.
+//! A disk in memory. It keeps a record of its changing calls, from which what a crash might have left follows.
 ghost use Rattle.std.specs.Prelude.{◌≡◌, ◌≢◌, ◌≤◌, ◌+◌, [], length, vec_len, vec_capacity, OnOk, OnErr};
 ghost use Rattle.salt_disk.specs.Disk.{part_of, settled, IsSettled};
 ghost use Rattle.salt_disk.specs.Crash.{MayLeave, LeavesTheSame};
-ghost use Rattle.salt_disk.specs.History.{states, after, owed_by, whole, with_part, wrote, emptied, Replays, IsRecorded, IsBounded};
+ghost use Rattle.salt_disk.specs.History.{states, replay, owed_by, whole, with_part, wrote, emptied, Replays, IsRecorded, IsBounded};
 ghost use Rattle.salt_disk.specs.Memory.{part_state, parts_state, honest_parts, IsPicked};
 
 use crate::call::Call;
@@ -31,7 +31,7 @@ pub struct MemDisk {
     calls: Vec<Call>,
     faults: Faults,
     // each earlier moment follows from the record
-    ghost replayed: { Replays (after (whole root.items even.items odd.items) calls.items) (parts_state parts) },
+    ghost replayed: { Replays (replay (whole root.items even.items odd.items) calls.items) (parts_state parts) },
     // the record has room for the cuts and syncs that may follow before the next write
     ghost room: { vec_len calls + owed_by (parts_state parts) ≤ vec_capacity calls },
     // how long the record may get

@@ -1,4 +1,4 @@
-// The three parts of a disk in memory.
+//! The three parts of a disk in memory.
 ghost use Rattle.std.specs.Prelude.{◌≡◌, ◌≤◌, ◌<◌, ◌+◌, ◌-◌, ◌^◌, ◌⊎◌, ℕ, [], ◌++◌, length, drop, min, true, false, OnOk, OnErr, IfOk, slice_get, slice_index, vec_len, vec_capacity};
 ghost use Rattle.std.specs.Option.{ForSome};
 ghost use Rattle.salt_disk.specs.Disk.{part_of, settled, put, ranges_of, read_from};

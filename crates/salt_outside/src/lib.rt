@@ -4,6 +4,10 @@
 //! tell it, those over the readers and writers of std do not. So a contract above can say what is done over bytes that
 //! are told, and that a fault is answered only where the object had one. The traits and their rules are this project's
 //! own.
+//!
+//! ```
+//! let text = read_all(alloc, &mut source, 65_536)?;
+//! ```
 #![tactic(auto)]
 
 mod calls;
@@ -12,8 +16,6 @@ mod memory;
 mod read;
 mod standard;
 mod streams;
-#[cfg(test)]
-mod tests;
 
 pub use causes::Outside;
 pub use memory::{MemSink, MemSource};

@@ -23,7 +23,7 @@ returns-clause-any_moment g c = λ told limit payloads payload next.
     (WritesOnly c.args.part c.args.len (length c.args.body.now) old) (WritesOnly c.args.part (c.args.len - 1) 1 mid) (HoldsOldOrNew c.args.part limit payloads payload old)
     (c.write_through.ensures.crash told) (c.write_through-2.ensures.crash told)
     (body_image c.args.part limit c.args.len payloads payload c.args.body.now old next)
-    (gate_image c.args.part limit c.args.len payloads payload c.args.body.now old next mid (c.in_ok-write_through.ensures.written told) (c.write_through.ensures.others told))
+    (gate_image c.args.part limit c.args.len payloads payload c.args.body.now old next mid (c.in_ok-write_through.ensures.ok told) (c.write_through.ensures.others told))
 
 pub returns-clause-stored : goal.returns-clause-stored
 returns-clause-stored g c = λ told.
@@ -35,8 +35,8 @@ returns-clause-stored g c = λ told.
     ((limit : ℕ) (payloads : List (List ℕ)) (payload : List ℕ) → IsNext limit c.args.len payloads payload c.args.body.now (part_of old c.args.part)
     → Rests limit (c.args.len + 5 + length payload) (payloads ++ payload ∷ []) (part_of new c.args.part))
     (λ is limit payloads payload next. rests_new c.args.part limit c.args.len payloads payload c.args.body.now old next mid
-    (c.in_ok-write_through.ensures.written told) (c.write_through.ensures.others told) (part_of new c.args.part) is)
-    (c.write_through-2.ensures.written told)
+    (c.in_ok-write_through.ensures.ok told) (c.write_through.ensures.others told) (part_of new c.args.part) is)
+    (c.write_through-2.ensures.ok told)
 
 pub returns-clause-memory : goal.returns-clause-memory
 returns-clause-memory g c = λ told is limit payloads rests.
@@ -44,7 +44,7 @@ returns-clause-memory g c = λ told is limit payloads rests.
     let mid = g.D.Disk.state c.write_through.new.disk in
     subst (λ (d : DiskState). Rests limit c.args.len payloads (part_of d c.args.part)) (sym (c.write_through-2.ensures.memory told is).state)
     (rests_old limit c.args.len payloads c.args.body.now (part_of old c.args.part) (part_of mid c.args.part) rests
-    (rests_within limit c.args.len payloads (part_of old c.args.part) rests) (c.in_ok-write_through.ensures.written told))
+    (rests_within limit c.args.len payloads (part_of old c.args.part) rests) (c.in_ok-write_through.ensures.ok told))
 
 pub returns-in_err-write_through-clause-stopped : goal.returns-in_err-write_through-clause-stopped
 returns-in_err-write_through-clause-stopped g c = λ told is limit payloads payload next.
@@ -63,7 +63,7 @@ returns-clause-stopped g c = λ told is limit payloads payload next.
       early = λ fails image may. absurd (fails (c.in_ok-write_through.ensures.fuse told).passed.0);
       late = λ passes. (
         c.write_through-2.ensures.cut_off told is,
-        λ image may. gate_decides c.args.part limit c.args.len payloads payload c.args.body.now old next mid (c.in_ok-write_through.ensures.written told) (c.write_through.ensures.others told) image
+        λ image may. gate_decides c.args.part limit c.args.len payloads payload c.args.body.now old next mid (c.in_ok-write_through.ensures.ok told) (c.write_through.ensures.others told) image
             ((c.write_through-2.ensures.crash told).each image (inl may)),
       );
     }

@@ -4,7 +4,7 @@ use Rattle.salt_disk.specs.declared.memory.MemDisk.{MemDisk}
 use Rattle.salt_disk.specs.declared.disk.DiskFault.TheVariants.{NoMemory}
 use Rattle.salt_disk.proofs.Torn.{changes_unless}
 use Rattle.salt_disk.specs.Disk.{Stays, Changes, DiskState, part_of, IsWritten}
-use Rattle.salt_disk.specs.History.{whole, states, after, with_part, wrote, Replays, IsBounded}
+use Rattle.salt_disk.specs.History.{whole, states, replay, with_part, wrote, Replays, IsBounded}
 use Rattle.salt_disk.specs.Memory.{parts_state}
 use Rattle.salt_disk.proofs.Record.{changes_with, is_written}
 use Rattle.salt_disk.proofs.memory.MemDiskDisk.write_at.Goals as goal
@@ -34,7 +34,7 @@ returns-clause-crash c = λ told.
 pub invariant_of-self-2-clause-replayed : goal.invariant_of-self-2-clause-replayed
 invariant_of-self-2-clause-replayed c =
     c.in_ok-write_part.ensures.recorded.kept (first c.args.self.now)
-    (subst (λ (l : List Call). Replays (after (first c.args.self.now) l) (parts_state c.args.self.now.parts)) (sym c.in_ok-reserve.ensures.items) c.args.self.now.replayed)
+    (subst (λ (l : List Call). Replays (replay (first c.args.self.now) l) (parts_state c.args.self.now.parts)) (sym c.in_ok-reserve.ensures.items) c.args.self.now.replayed)
 
 pub invariant_of-self-2-clause-bounded : goal.invariant_of-self-2-clause-bounded
 invariant_of-self-2-clause-bounded c =

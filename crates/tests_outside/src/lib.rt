@@ -1,0 +1,7 @@
+//! Tests of salt_outside, salt_disk and gate_journal, by their public calls alone.
+#![tactic(auto)]
+
+#[cfg(test)]
+mod disk;
+#[cfg(test)]
+mod streams;
