@@ -9,10 +9,10 @@ use Rattle.target_tree.specs.declared.token.Token.{Token}
 use Rattle.target_tree.specs.declared.reader.Ended.{Ended}
 use Rattle.target_tree.specs.declared.reader.Part.{Part}
 use Rattle.target_tree.specs.declared.fault.TargetFault.{TargetFault}
-use Rattle.target_tree.specs.declared.fault.TargetFault.TheVariants.{Empty, TooLong}
+use Rattle.target_tree.specs.declared.fault.TargetFault.TheVariants.{NoMemory, Empty, TooLong}
 use Rattle.target_tree.specs.Reading.{Counts, text_end, group_word, ◌>>=◌, Fails}
 use Rattle.target_tree.specs.Machine.{joined_or, Gives, counts_of, state_of, machine_all, machine_group, machine_begun, machine_end, machine_target, tree_of, machine_tree}
-use Rattle.target_tree.specs.Targets.{IsTarget, IsReadUnlessLimit, Answers, reading, target_words, sole_word}
+use Rattle.target_tree.specs.Targets.{IsTarget, IsReadUnlessLimit, IsReadUnlessRefused, Answers, reading, target_words, sole_word}
 use Rattle.target_tree.specs.declared.kind.Kind.TheVariants.{Compound}
 use Rattle.target_tree.specs.Going.{Goes, going, within}
 use Rattle.target_tree.specs.declared.run.Outer.{Outer}
@@ -98,6 +98,16 @@ fault-clause kind groups text (Err f) h =
     failed : (x : Result Ended TargetFault) (e : TargetFault) → (x >>= tree_of) ≡ Err e → x ≡ Err e
     failed (Ok x) e g = cc
     failed (Err x) e g = cc
+
+-- a fault that words which stand for a tree may have
+limit-or-memory : (f : TargetFault) (read : Result Counts TargetFault) → Fails f read → IsReadUnlessLimit read → IsReadUnlessRefused (Err f)
+limit-or-memory NoMemory read h l = tt
+limit-or-memory f read h l = subst (λ (r : Result Counts TargetFault). IsReadUnlessLimit r) h l
+
+pub complete-clause : (kind : Kind) (groups : List Group) (text : List ℕ) (r : Result Target TargetFault) → Gives r (machine_target kind groups text >>= tree_of)
+    → (t : Target) → IsTarget kind groups text t → IsReadUnlessRefused r
+complete-clause kind groups text (Ok u) h t tree = tt
+complete-clause kind groups text (Err f) h t tree = limit-or-memory f (reading kind groups text) (fault-clause kind groups text (Err f) h) (read-unless-limit kind groups text t tree)
 
 -- what the loop is begun with
 going-first : (groups : List Group) (words : List Token) → ((machine_all (machine_group 257 groups []) words (machine_begun 0 0 0) >>= machine_end) >>= tree_of) ≡ going 257 groups [] words (machine_begun 0 0 0)

@@ -1,5 +1,5 @@
 -- What is left to be read, over the texts that wait for the words of a nodegroup.
-use Rattle.std.specs.Prelude.{◌≡◌, ℕ, suc, ◌+◌, ◌-◌, ◌≤◌, List, [], ◌∷◌, length, map, Option, None, Some, Result, Ok, Err, if◌then◌else◌, nat_le}
+use Rattle.std.specs.Prelude.{◌≡◌, ℕ, suc, ◌+◌, ◌-◌, ◌≤◌, List, [], ◌∷◌, length, map, Option, None, Some, Result, Ok, Err, if◌then◌else◌, nat_le, nat_lt}
 use Rattle.std.specs.Borrow.{Bor}
 use Rattle.target_tree.specs.Nodegroups.{Group}
 use Rattle.target_tree.specs.declared.target.Target.{Target}
@@ -8,6 +8,7 @@ use Rattle.target_tree.specs.declared.reader.Reader.{Reader as Machine}
 use Rattle.target_tree.specs.declared.run.Outer.{Outer}
 use Rattle.target_tree.specs.declared.fault.TargetFault.{TargetFault}
 use Rattle.target_tree.specs.declared.fault.TargetFault.TheVariants.{Empty, TooLong, Word, TooManyWords, UnknownGroup, Circle}
+use Rattle.target_tree.specs.Limits.{most_text_bytes, most_words}
 use Rattle.target_tree.specs.Words.{tokens_of}
 use Rattle.target_tree.specs.Nodegroups.{text_of, is_among}
 use Rattle.target_tree.specs.Reading.{◌>>=◌, Fails}
@@ -27,7 +28,7 @@ going depth groups (outer ∷ outers) words m =
 abbrev pub within : List ℕ → Result (List ℕ) TargetFault
 within text =
     if nat_le (length (tokens_of text)) 0 then Err Empty
-    else if nat_le 4097 (length text) then Err TooLong
+    else if nat_lt most_text_bytes (length text) then Err TooLong
     else Ok text
 
 -- the text of a nodegroup that may be read here
@@ -44,7 +45,7 @@ opened_by groups names name at (Some t) = Err (Word at)
 
 -- the text that a nodegroup's word begins
 abbrev pub opened : List Group → List (List ℕ) → List ℕ → Machine → Result (List ℕ) TargetFault
-opened groups names name m = if nat_le 256 m.at then Err TooManyWords else opened_by groups names name m.at m.last
+opened groups names name m = if nat_le most_words m.at then Err TooManyWords else opened_by groups names name m.at m.last
 
 -- What a function returned, seen by `view`, is what is to be given, unless memory ran out.
 abbrev pub GivesBy : {A B : Type 0} → (A → B) → Result A TargetFault → Result B TargetFault → Type 0

@@ -1,6 +1,6 @@
 -- The reading with its trees, as the loop makes it: each parenthesis keeps what stands before its last operand.
 -- Private contracts alone cite it; the public definitions stand in Words, Grammar, Reading and Targets.
-use Rattle.std.specs.Prelude.{◌≡◌, ℕ, zero, suc, ◌+◌, ◌-◌, Bool, true, false, List, [], ◌∷◌, length, map, Option, None, Some, Result, Ok, Err, if◌then◌else◌, nat_le}
+use Rattle.std.specs.Prelude.{◌≡◌, ℕ, zero, suc, ◌+◌, ◌-◌, Bool, true, false, List, [], ◌∷◌, length, map, Option, None, Some, Result, Ok, Err, if◌then◌else◌, nat_le, nat_lt}
 use Rattle.target_tree.specs.Nodegroups.{Group}
 use Rattle.target_tree.specs.declared.target.Target.{Target}
 use Rattle.target_tree.specs.declared.target.Target.TheVariants.{Not, And, Or}
@@ -9,6 +9,7 @@ use Rattle.target_tree.specs.declared.fault.TargetFault.TheVariants.{Empty, TooL
 use Rattle.target_tree.specs.declared.token.Token.{Token}
 use Rattle.target_tree.specs.declared.token.Token.TheVariants.{AndWord, OrWord, NotWord, OpenWord, CloseWord, Leaf, Pattern, Nodegroup, NoLetter, NoLeaf}
 use Rattle.target_tree.specs.Words.{tokens_of}
+use Rattle.target_tree.specs.Limits.{most_text_bytes, most_words, most_open, most_patterns}
 use Rattle.target_tree.specs.Nodegroups.{text_of, is_among}
 use Rattle.target_tree.specs.declared.reader.Nest.{Nest}
 use Rattle.target_tree.specs.declared.reader.Part.{Part}
@@ -56,12 +57,12 @@ bare around = record { left_or = None; left_and = None; nest = fresh around }
 
 abbrev pub machine_operand : (List ℕ → Machine → Step) → Token → Machine → Step
 machine_operand group NotWord m =
-    if nat_le 64 m.part.nest.deep then Err TooDeep else Ok (counted (record m { part = record { left_or = m.part.left_or; left_and = m.part.left_and; nest = deeper m.part.nest } }))
+    if nat_le most_open m.part.nest.deep then Err TooDeep else Ok (counted (record m { part = record { left_or = m.part.left_or; left_and = m.part.left_and; nest = deeper m.part.nest } }))
 machine_operand group OpenWord m =
-    if nat_le 64 m.part.nest.deep then Err TooDeep else Ok (counted (record m { part = bare (m.part.nest.deep + 1); parts = m.part ∷ m.parts }))
+    if nat_le most_open m.part.nest.deep then Err TooDeep else Ok (counted (record m { part = bare (m.part.nest.deep + 1); parts = m.part ∷ m.parts }))
 machine_operand group (Leaf t) m = Ok (mended t (counted m))
 machine_operand group (Pattern t) m =
-    if nat_le 16 m.patterns then Err TooManyPatterns else Ok (mended t (counted (record m { patterns = m.patterns + 1 })))
+    if nat_le most_patterns m.patterns then Err TooManyPatterns else Ok (mended t (counted (record m { patterns = m.patterns + 1 })))
 machine_operand group (Nodegroup name) m = group name m
 machine_operand group NoLetter m = Err (BadLetter m.at)
 machine_operand group AndWord m = Err (Word m.at)
@@ -90,7 +91,7 @@ machine_by group word None m = machine_operand group word m
 machine_by group word (Some t) m = machine_operator t word m
 
 abbrev pub machine_word : (List ℕ → Machine → Step) → Token → Machine → Step
-machine_word group word m = if nat_le 256 m.at then Err TooManyWords else machine_by group word m.last m
+machine_word group word m = if nat_le most_words m.at then Err TooManyWords else machine_by group word m.last m
 
 abbrev pub machine_all : (List ℕ → Machine → Step) → List Token → Machine → Step
 machine_all group [] m = Ok m
@@ -110,7 +111,7 @@ machine_end m = machine_end_by m.last m
 abbrev pub machine_text : (List ℕ → Machine → Step) → List ℕ → Machine → Result Ended TargetFault
 machine_text group text m =
     if nat_le (length (tokens_of text)) 0 then Err Empty
-    else if nat_le 4097 (length text) then Err TooLong
+    else if nat_lt most_text_bytes (length text) then Err TooLong
     else machine_all group (tokens_of text) m >>= machine_end
 
 abbrev pub machine_begun : ℕ → ℕ → ℕ → Machine
@@ -156,8 +157,8 @@ no_group name m = Err (Word m.at)
 abbrev pub machine_target : Kind → List Group → List ℕ → Result Ended TargetFault
 machine_target kind groups text =
     if nat_le (length (target_words kind text)) 0 then Err Empty
-    else if nat_le 4097 (length text) then Err TooLong
-    else machine_all (machine_group 257 groups []) (target_words kind text) (machine_begun 0 0 0) >>= machine_end
+    else if nat_lt most_text_bytes (length text) then Err TooLong
+    else machine_all (machine_group (most_words + 1) groups []) (target_words kind text) (machine_begun 0 0 0) >>= machine_end
 
 abbrev pub tree_of : Ended → Result Target TargetFault
 tree_of e = Ok e.tree
