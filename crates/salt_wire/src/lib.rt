@@ -8,8 +8,6 @@ mod laws;
 mod message;
 mod parts;
 mod reading;
-#[cfg(test)]
-mod tests;
 mod tree;
 mod whole;
 mod wire;

@@ -33,7 +33,7 @@ returns-in-IdList-clause-value t c =
 pub returns-in-GrainGlob-clause-value : goal.returns-in-GrainGlob-clause-value
 returns-in-GrainGlob-clause-value t c =
     let a = c.args in
-    carried c.pairs_meet.result _ _ c.pairs_meet.ensures (ap (λ x. map_meets (told_pairs a.grains.now) (parts x)) c.as_str-in-GrainGlob.ensures
+    carried c.pairs_meet.result _ _ c.pairs_meet.ensures (ap (λ x. map_meets (told_pairs a.grains.now) (parts x)) c.as_str-in-GrainGlob.ensures.value
     ∙ sym (glob-holds c.in-GrainGlob.text a.grains.now)
     ∙ sym (R.holds-GrainGlob c.in-GrainGlob.text a.id.now a.grains.now a.pillar.now) ∙ ap (λ x. holds (target_of x) a.id.now a.grains.now a.pillar.now) (sym c.in-GrainGlob.is))
 
@@ -46,7 +46,7 @@ returns-in-GrainPcre-clause-value t c =
 pub returns-in-PillarGlob-clause-value : goal.returns-in-PillarGlob-clause-value
 returns-in-PillarGlob-clause-value t c =
     let a = c.args in
-    carried c.pairs_meet-in-PillarGlob.result _ _ c.pairs_meet-in-PillarGlob.ensures (ap (λ x. map_meets (told_pairs a.pillar.now) (parts x)) c.as_str-in-PillarGlob.ensures
+    carried c.pairs_meet-in-PillarGlob.result _ _ c.pairs_meet-in-PillarGlob.ensures (ap (λ x. map_meets (told_pairs a.pillar.now) (parts x)) c.as_str-in-PillarGlob.ensures.value
     ∙ sym (glob-holds c.in-PillarGlob.text a.pillar.now)
     ∙ sym (R.holds-PillarGlob c.in-PillarGlob.text a.id.now a.grains.now a.pillar.now) ∙ ap (λ x. holds (target_of x) a.id.now a.grains.now a.pillar.now) (sym c.in-PillarGlob.is))
 
