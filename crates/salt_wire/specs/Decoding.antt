@@ -38,12 +38,15 @@ use Rattle.salt_wire.specs.Limits.{most_target_bytes, most_leaf_bytes, most_node
 abbrev pub bad : List ℕ → Misread
 bad bytes = BadField (length bytes)
 
+-- a byte
 abbrev pub byte_field : Reader Misread ℕ
 byte_field bytes = number_or w8 (bad bytes) bytes
 
+-- a number of 32 bits
 abbrev pub number_field : Reader Misread ℕ
 number_field bytes = number_or w32 (bad bytes) bytes
 
+-- a text
 abbrev pub text_field : Reader Misread (List ℕ)
 text_field bytes = text_or (bad bytes) (bad bytes) bytes
 
@@ -63,15 +66,19 @@ counted_or f w test bytes = do
 abbrev pub is_word : List ℕ → Bool
 is_word bytes = nat_le 1 (length bytes) && (nat_le (length bytes) most_word_bytes && list_all is_word_byte bytes)
 
+-- an id after the byte of its length, or this fault
 abbrev pub id_or : Misread → Reader Misread (List ℕ)
 id_or f bytes = counted_or f w8 is_id bytes
 
+-- an id after the byte of its length
 abbrev pub id_field : Reader Misread (List ℕ)
 id_field bytes = id_or (bad bytes) bytes
 
+-- a word after the two bytes of its length
 abbrev pub word_field : Reader Misread (List ℕ)
 word_field bytes = counted_or (bad bytes) w16 is_word bytes
 
+-- a job id
 unfoldable pub jid_field : Reader Misread ℕ
 jid_field bytes = do
   n ← number_or w64 (bad bytes) bytes
@@ -85,6 +92,7 @@ kinds = k.Glob ∷ k.Pcre ∷ k.List ∷ k.Grain ∷ k.GrainPcre ∷ k.Pillar �
 unfoldable pub kind_of : ℕ → Option Kind
 kind_of code = find (λ kind. code_of kind == code) kinds
 
+-- the kind of a target
 unfoldable pub kind_field : Reader Misread Kind
 kind_field bytes = do
   code ← byte_field bytes
@@ -95,30 +103,35 @@ abbrev pub value_or : List ℕ → Result (Value × ℕ) ValueFault → Result (
 value_or bytes (Ok x) = Ok (x.0, drop x.1 bytes)
 value_or bytes (Err e) = Err (bad bytes)
 
+-- a value
 unfoldable pub value_field : Reader Misread Value
 value_field bytes = value_or bytes (read_at bytes)
 
--- the items of a list
+-- by cases on the value: a list alone has items
 abbrev pub items_layer : Value-F Value → Option (List Value)
 items_layer (Value-F.List items) = Some items
 items_layer other = None
 
+-- the items of a value that is a list
 abbrev pub items_of : Value → Option (List Value)
 items_of value = items_layer (out-Value value)
 
+-- a value that is a list
 unfoldable pub items_field : Reader Misread (List Value)
 items_field bytes = do
   value ← value_field bytes
   found (bad bytes) (items_of value.0) value.1
 
--- the pairs of a map
+-- by cases on the value: a map alone has pairs
 abbrev pub pairs_layer : Value-F Value → Option (List (List ℕ × Value))
 pairs_layer (Value-F.Map pairs) = Some pairs
 pairs_layer other = None
 
+-- the pairs of a value that is a map
 abbrev pub pairs_of : Value → Option (List (List ℕ × Value))
 pairs_of value = pairs_layer (out-Value value)
 
+-- a value that is a map
 unfoldable pub fields_field : Reader Misread (List (List ℕ × Value))
 fields_field bytes = do
   value ← value_field bytes
@@ -126,6 +139,7 @@ fields_field bytes = do
 
 -- ---- entries and messages
 
+-- what stands after the tag of a return
 unfoldable pub return_at : Reader Misread Entry
 return_at bytes = do
   seq ← number_field bytes
@@ -133,12 +147,14 @@ return_at bytes = do
   value ← value_field retcode.1
   Ok (e.Return seq.0 (record { retcode = retcode.0; value = value.0 }), value.1)
 
+-- what stands after the tag of a fired event
 unfoldable pub fired_at : Reader Misread Entry
 fired_at bytes = do
   tag ← word_field bytes
   body ← value_field tag.1
   Ok (e.Fired (record { tag = tag.0; body = body.0 }), body.1)
 
+-- what stands after the tag of a mine
 unfoldable pub mine_at : Reader Misread Entry
 mine_at bytes = do
   seq ← number_field bytes
@@ -147,6 +163,7 @@ mine_at bytes = do
   pillar ← fields_field grains.1
   Ok (e.Mine seq.0 mine.0 grains.0 pillar.0, pillar.1)
 
+-- what stands after the tag of a start
 abbrev pub start_at : Reader Misread Entry
 start_at bytes = do
   boot ← number_field bytes
@@ -158,6 +175,7 @@ entry_after tag bytes =
     if tag == entry_code code.Return then return_at bytes else if tag == entry_code code.Fired then fired_at bytes else if tag == entry_code code.Start then start_at bytes
     else if tag == entry_code code.Mine then mine_at bytes else Err (BadField (suc (length bytes)))
 
+-- an entry
 unfoldable pub entry_field : Reader Misread Entry
 entry_field bytes = do
   tag ← byte_field bytes
@@ -219,6 +237,7 @@ leaf tag text =
     if tag == node_code code.IdGlob then t.IdGlob text else if tag == node_code code.IdPcre then t.IdPcre text else if tag == node_code code.GrainGlob then t.GrainGlob text
     else if tag == node_code code.GrainPcre then t.GrainPcre text else if tag == node_code code.PillarGlob then t.PillarGlob text else t.PillarPcre text
 
+-- a leaf with a text, after its tag
 unfoldable pub text_node : ℕ → TreeReader
 text_node tag room bytes =
     if is_text_tag tag then (do
@@ -226,22 +245,26 @@ text_node tag room bytes =
       Ok (leaf tag text.0, room, text.1))
     else Err (BadField (suc (length bytes)))
 
+-- a leaf with ids, after its tag
 unfoldable pub list_node : TreeReader
 list_node room bytes = do
   ids ← leaf_ids room.stop bytes
   Ok (t.IdList ids.0, room, ids.1)
 
+-- a part that is negated
 unfoldable pub not_node : TreeReader → TreeReader
 not_node part room bytes = do
   only ← part room bytes
   Ok (t.Not only.0, only.1, only.2)
 
+-- two parts of which both have to hold
 unfoldable pub and_node : TreeReader → TreeReader
 and_node part room bytes = do
   left ← part room bytes
   right ← part left.1 left.2
   Ok (t.And left.0 right.0, right.1, right.2)
 
+-- two parts of which one has to hold
 unfoldable pub or_node : TreeReader → TreeReader
 or_node part room bytes = do
   left ← part room bytes
@@ -274,6 +297,7 @@ tree_field bytes = do
 
 -- ---- jobs and messages
 
+-- a job
 unfoldable pub job_field : Reader Misread Job
 job_field bytes = do
   jid ← jid_field bytes
@@ -284,17 +308,20 @@ job_field bytes = do
   args ← items_field fun.1
   Ok (record { jid = jid.0; kind = kind.0; tgt = tgt.0; target = target.0; fun = fun.0; args = args.0 }, args.1)
 
+-- the fields of a publication
 unfoldable pub pub_fields : Reader Misread Message
 pub_fields bytes = do
   seq ← number_field bytes
   job ← job_field seq.1
   Ok (m.Pub seq.0 job.0, job.1)
 
+-- the count of held jobs
 unfoldable pub have_fields : Reader Misread Message
 have_fields bytes = do
   jobs ← number_field bytes
   Ok (m.Have jobs.0, jobs.1)
 
+-- an entry of a minion, with its number
 unfoldable pub up_fields : Reader Misread Message
 up_fields bytes = do
   minion ← id_field bytes
@@ -302,17 +329,20 @@ up_fields bytes = do
   entry ← entry_field n.1
   Ok (m.Up minion.0 n.0 entry.0, entry.1)
 
+-- the count of held entries of a minion
 unfoldable pub up_have_fields : Reader Misread Message
 up_have_fields bytes = do
   minion ← id_field bytes
   n ← number_field minion.1
   Ok (m.UpHave minion.0 n.0, n.1)
 
+-- the id of who speaks
 unfoldable pub hello_fields : Reader Misread Message
 hello_fields bytes = do
   id ← id_field bytes
   Ok (m.Hello id.0, id.1)
 
+-- what a client wants published
 unfoldable pub ask_publish_fields : Reader Misread Message
 ask_publish_fields bytes = do
   kind ← kind_field bytes
@@ -321,11 +351,13 @@ ask_publish_fields bytes = do
   args ← items_field fun.1
   Ok (m.AskPublish kind.0 tgt.0 fun.0 args.0, args.1)
 
+-- the job whose report a client wants
 unfoldable pub ask_report_fields : Reader Misread Message
 ask_report_fields bytes = do
   jid ← jid_field bytes
   Ok (m.AskReport jid.0, jid.1)
 
+-- of which minions and function a client wants the mine
 unfoldable pub ask_mine_fields : Reader Misread Message
 ask_mine_fields bytes = do
   kind ← kind_field bytes
@@ -339,6 +371,7 @@ status_field bytes = do
   status ← byte_field bytes
   when (is_status status.0) (bad bytes) status
 
+-- the status and the report
 unfoldable pub answer_fields : Reader Misread Message
 answer_fields bytes = do
   status ← status_field bytes

@@ -90,10 +90,11 @@ patterns_layer leaf = 0
 abbrev pub right : Target → Bool
 right = fold-Target Bool right_layer
 
--- how many nodes a tree has, and how many pattern leaves
+-- how many nodes a tree has
 abbrev pub nodes : Target → ℕ
 nodes = fold-Target ℕ nodes_layer
 
+-- how many of them are leaves with a pattern
 abbrev pub patterns : Target → ℕ
 patterns = fold-Target ℕ patterns_layer
 

@@ -1,4 +1,4 @@
-// The fields of messages read from bytes.
+//! The fields of messages read from bytes.
 ghost use Rattle.std.specs.Prelude.{◌≡◌, false, true, IfOk, IfErr, MatchOption};
 ghost use Rattle.salt_wire.specs.Limits.{is_id};
 ghost use Rattle.salt_wire.specs.Decoding as spec;

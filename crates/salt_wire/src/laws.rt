@@ -1,4 +1,4 @@
-// Laws of the bytes, as the clauses of functions that do nothing.
+//! Laws of the bytes, as the clauses of functions that do nothing.
 ghost use Rattle.std.specs.Prelude.{◌≡◌, List, ℕ, Err};
 ghost use Rattle.salt_wire.specs.Spelling as spelling;
 ghost use Rattle.salt_wire.specs.Limits.{JobFits, EntryFits, Within};

@@ -1,4 +1,5 @@
-//! Messages between the nodes of a fleet, as bytes.
+//! Messages between the nodes of a fleet, as bytes. `encode(&message, &mut out)?` appends the body of a message, and
+//! `decode(alloc, body)?` gives the message of a body.
 #![tactic(auto)]
 
 mod deed;

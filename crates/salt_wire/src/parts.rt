@@ -1,4 +1,4 @@
-// Jobs and entries read from bytes.
+//! Jobs and entries read from bytes.
 ghost use Rattle.std.specs.Prelude.{◌≡◌};
 ghost use Rattle.salt_wire.specs.Decoding as spec;
 ghost use Rattle.salt_value.specs.Readers.{Gives};

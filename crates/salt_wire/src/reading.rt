@@ -1,4 +1,4 @@
-// Messages read from bytes.
+//! Messages read from bytes.
 ghost use Rattle.std.specs.Prelude.{◌≡◌};
 ghost use Rattle.salt_wire.specs.Limits as limits;
 ghost use Rattle.salt_wire.specs.Decoding as spec;

@@ -1,4 +1,4 @@
-// Trees of targets read from bytes.
+//! Trees of targets read from bytes.
 ghost use Rattle.std.specs.Prelude.{◌≡◌};
 ghost use Rattle.salt_wire.specs.Decoding as spec;
 ghost use Rattle.salt_value.specs.Readers.{Gives, several};

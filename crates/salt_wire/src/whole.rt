@@ -1,4 +1,4 @@
-// Whole bodies and fields, with places counted from the front.
+//! Whole bodies and fields, with places counted from the front.
 ghost use Rattle.std.specs.Prelude.{◌≡◌, ◌≤◌, ◌-◌, Ok, Err, IfOk, IfErr, length};
 ghost use Rattle.salt_value.specs.Readers.{Answers};
 ghost use Rattle.salt_wire.specs.declared.fault.WireFault.TheVariants as faults;

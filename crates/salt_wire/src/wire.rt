@@ -1,4 +1,4 @@
-// The public calls.
+//! The public calls.
 ghost use Rattle.std.specs.Prelude.{◌≡◌, ◌≢◌, ◌≤◌, ◌+◌, ◌++◌, List, ℕ, length, drop, Ok, Err, IfOk, IfErr, OnOk, OnErr};
 ghost use Rattle.salt_value.specs.Id.{IsId};
 ghost use Rattle.salt_value.specs.Word.{IsWord};

@@ -1,4 +1,4 @@
-// Messages written as bytes. After an error some of the bytes may stand at the end.
+//! Messages written as bytes. After an error some of the bytes may stand at the end.
 ghost use Rattle.std.specs.Prelude.{◌≡◌, ◌<◌, ◌≤◌, ◌^◌, ◌++◌, ◌∷◌, true, List, ℕ, length, map, take, OnOk, OnErr};
 ghost use Rattle.std.specs.Int.{w16, w64, to_be_bytes};
 ghost use Rattle.salt_value.specs.Spelling.{bytes, text as spelled_text, joined};
