@@ -26,6 +26,7 @@ fn answer_to(
         "glob_caseless" => globs::glob_caseless(alloc, rest),
         "group" => targets::group(alloc, groups, rest),
         "target" => targets::target(alloc, groups, rest),
+        "copy" => targets::copy(alloc, groups, rest),
         "value" => values::value(alloc, rest),
         "message" => messages::message(alloc, rest),
         "script" => scripts::script(alloc, rest),

@@ -3,7 +3,7 @@ use crate::spread::cut;
 use crate::trees::tree_text;
 use salt_value::{MinionId, Text};
 use std::alloc::{AllocError, Global};
-use target_tree::{Groups, Kind, read_target};
+use target_tree::{Groups, Kind, Target, read_target};
 
 /// Adds a nodegroup of this name and text.
 pub fn group(alloc: Global, groups: &mut Groups, rest: &str) -> Result<String, AllocError> {
@@ -32,4 +32,25 @@ fn tree_of(alloc: Global, kind: Kind, text: &str, groups: &Groups) -> Result<Str
         Ok(tree) => tree_text(alloc, &tree),
         Err(fault) => format!(in alloc; "{fault:?}"),
     }
+}
+
+/// The copy of that tree.
+pub fn copy(alloc: Global, groups: &Groups, rest: &str) -> Result<String, AllocError> {
+    let (kind, text) = cut(rest);
+    match Kind::read(kind) {
+        Some(kind) => copy_of(alloc, kind, text, groups),
+        None => String::from_str(alloc, "no kind"),
+    }
+}
+
+fn copy_of(alloc: Global, kind: Kind, text: &str, groups: &Groups) -> Result<String, AllocError> {
+    match read_target(alloc, kind, text, groups) {
+        Ok(tree) => copy_text(alloc, &tree),
+        Err(fault) => format!(in alloc; "{fault:?}"),
+    }
+}
+
+fn copy_text(alloc: Global, tree: &Target) -> Result<String, AllocError> {
+    let copy = tree.copy(alloc)?;
+    tree_text(alloc, &copy)
 }

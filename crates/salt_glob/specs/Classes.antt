@@ -35,6 +35,6 @@ is_member b (x ∷ dash ∷ y ∷ rest) =
 abbrev pub in_class : ℕ → Class → Bool
 in_class b c = if c.negated then not (is_member b c.members) else is_member b c.members
 
--- the class that stands at these places of a pattern
+-- The class that stands at these places of a pattern. No public contract cites it.
 abbrev pub class_in : List ℕ → places.Class → Class
 class_in pattern c = record { negated = c.negated; members = slice_range pattern c.first c.end }

@@ -7,6 +7,7 @@ use Rattle.salt_glob.specs.Globs.{Glob}
 abbrev pub Takes : (ℕ → Type 0) → List ℕ → List ℕ → Type 0
 Takes Passes rest text = (b : ℕ) × (after : List ℕ) × (text ≡ b ∷ after) × Passes b × Glob rest after
 
+-- whether a pattern holds is told by what stands at its front
 pub record IsByFront : Type 0 where
   -- the empty pattern holds for the empty text alone
   pub nothing : (text : List ℕ) → Glob [] text ↔ (text ≡ [])

@@ -25,12 +25,13 @@ more any = 0
 more (set c) = class_size c
 more (plain b) = 0
 
--- the pieces of a pattern from left to right, after its first `skipped` bytes
+-- the same after the first `skipped` bytes, which belong to the piece before
 abbrev pub pieces_after : ℕ → List ℕ → List Piece
 pieces_after skipped [] = []
 pieces_after (suc skipped) (b ∷ rest) = pieces_after skipped rest
 pieces_after zero (b ∷ rest) = piece b rest ∷ pieces_after (more (piece b rest)) rest
 
+-- the pieces of a pattern from left to right
 abbrev pub pieces : List ℕ → List Piece
 pieces pattern = pieces_after 0 pattern
 
@@ -54,40 +55,45 @@ Hold (plain x ∷ ps) text = (rest : List ℕ) × (text ≡ x ∷ rest) × Hold 
 abbrev pub Glob : List ℕ → List ℕ → Type 0
 Glob pattern text = Hold (pieces pattern) text
 
--- The same as a function, for definitions that ask it.
+-- some suffix passes
 abbrev pub some_suffix : (List ℕ → Bool) → List ℕ → Bool
 some_suffix f [] = f []
 some_suffix f (b ∷ rest) = f (b ∷ rest) || some_suffix f rest
 
+-- the piece takes the first byte, and the rest passes
 abbrev pub after_first : Piece → (List ℕ → Bool) → List ℕ → Bool
 after_first p f [] = false
 after_first p f (b ∷ rest) = takes p b && f rest
 
+-- the piece is a `*`
 abbrev pub is_star : Piece → Bool
 is_star star = true
 is_star any = false
 is_star (set c) = false
 is_star (plain x) = false
 
+-- `Hold` as a function, for definitions that ask it
 unfoldable pub held : List Piece → List ℕ → Bool
 held [] [] = true
 held [] (b ∷ rest) = false
 held (p ∷ ps) text = if is_star p then some_suffix (held ps) text else after_first p (held ps) text
 
+-- `Glob` as a function
 abbrev pub glob : List ℕ → List ℕ → Bool
 glob pattern text = held (pieces pattern) text
 
--- the piece at a place of a pattern, and how many bytes it has where it takes a byte
+-- The piece at a place of a pattern. No public contract cites it.
 abbrev pub piece_at : List ℕ → ℕ → Piece
 piece_at pattern at = piece (slice_index pattern at) (drop (at + 1) pattern)
 
+-- How many bytes of the pattern a piece has, where it takes the byte. No public contract cites it.
 abbrev pub taken_by : Piece → ℕ → Option ℕ
 taken_by p b = if takes p b then Some (more p + 1) else None
 
--- the pattern from one place on holds for the text from another place on
+-- The pattern from one place on holds for the text from another place on. No public contract cites it.
 abbrev pub HoldAt : List ℕ → List ℕ → ℕ → ℕ → Type 0
 HoldAt pattern text p t = Glob (drop p pattern) (drop t text)
 
--- or from a later place of the text on
+-- The same from a later place of the text on. No public contract cites it.
 abbrev pub HoldLater : List ℕ → List ℕ → ℕ → ℕ → Type 0
 HoldLater pattern text p t = (u : ℕ) × (t ≤ u) × HoldAt pattern text p u

@@ -11,7 +11,7 @@ lowered bytes = map to_ascii_lowercase bytes
 abbrev pub glob_caseless : List ℕ → List ℕ → Bool
 glob_caseless pattern text = glob (lowered pattern) (lowered text)
 
--- the bytes as a matcher reads them
+-- The bytes as a matcher reads them. No public contract cites it.
 abbrev pub folded : Bool → List ℕ → List ℕ
 folded true bytes = lowered bytes
 folded false bytes = bytes

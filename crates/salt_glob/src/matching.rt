@@ -172,8 +172,8 @@ fn holds(pattern: &Folded, text: &Folded) -> bool
 /// range, and a `[` that no `]` closes stands for itself (Salt documentation, Targeting Minions; there is no escape).
 /// It takes no memory, and at most as many steps as the pattern's length times the text's.
 pub fn glob(pattern: &[u8], text: &[u8]) -> bool
-    ensures relation { IsTrue result ↔ spec.Glob pattern.now text.now }
-    ensures value { result ≡ spec.glob pattern.now text.now }
+    ensures ok { IsTrue result ↔ spec.Glob pattern.now text.now }
+    ensures exact { result ≡ spec.glob pattern.now text.now }
 {
     holds(&Folded::exact(pattern), &Folded::exact(text))
 }
@@ -181,8 +181,8 @@ pub fn glob(pattern: &[u8], text: &[u8]) -> bool
 /// `glob` with `A` to `Z` lowered in the pattern and in the text, also where they bound a range of a class: `[A-z]` has the
 /// bytes from `a` to `z`, and `[Z-a]` has none. It takes no memory, and at most as many steps as `glob`.
 pub fn glob_caseless(pattern: &[u8], text: &[u8]) -> bool
-    ensures relation { IsTrue result ↔ spec.Glob (lowered pattern.now) (lowered text.now) }
-    ensures value { result ≡ glob_caseless pattern.now text.now }
+    ensures ok { IsTrue result ↔ spec.Glob (lowered pattern.now) (lowered text.now) }
+    ensures exact { result ≡ glob_caseless pattern.now text.now }
 {
     holds(&Folded::caseless(pattern), &Folded::caseless(text))
 }

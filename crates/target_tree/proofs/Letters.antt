@@ -1,5 +1,5 @@
 -- The letter of a leaf.
-use Rattle.std.proofs.Common.{◌≡◌, ◌≢◌, ℕ, ◌<◌, ◌≤◌, Bool, true, false, List, [], ◌∷◌, ◌++◌, length, drop, get_or, refl, ap, ap₂, sym, subst, ◌∙◌, arith}
+use Rattle.std.proofs.Common.{◌≡◌, ◌≢◌, ◌⊎◌, inl, inr, ℕ, ◌<◌, ◌≤◌, Bool, true, false, List, [], ◌∷◌, ◌++◌, length, drop, get_or, refl, ap, ap₂, sym, subst, ◌∙◌, arith}
 use Rattle.std.specs.Prelude.{if◌then◌else◌, nat_le, nat_eq, ◌&&◌, ◌||◌, not, slice_index}
 use Rattle.std.specs.List.{list_any}
 use Rattle.std.proofs.lemmas.Bool.Decides.{nat_tests}
@@ -32,6 +32,15 @@ pub no-capital : (s front text : List ℕ) (letter : ℕ) → s ≡ front ++ 64 
 no-capital s [] text letter e n g f = absurd (omega arith)
 no-capital s (a ∷ []) text letter e n g f = ap is_lettered e ∙ false-and (nat_le 65 a && nat_le a 90) true (subst (λ (b : ℕ). (nat_le 65 b && nat_le b 90) ≡ false) g f)
 no-capital s (a ∷ b ∷ front) text letter e n g f = absurd (omega arith)
+
+below : (a : ℕ) → a < 65 → (nat_le 65 a && nat_le a 90) ≡ false
+below a lt = false-and (nat_le 65 a) (nat_le a 90) (grind (arith, nat_tests))
+
+above : (a : ℕ) → 90 < a → (nat_le 65 a && nat_le a 90) ≡ false
+above a lt = and-false (nat_le 65 a) (nat_le a 90) (grind (arith, nat_tests))
+
+pub outside : (a : ℕ) → (a < 65) ⊎ ((65 ≤ a) × (90 < a)) → (nat_le 65 a && nat_le a 90) ≡ false
+outside a e = elim e [ inl low ↦ below a low | inr high ↦ above a high.1 ]
 
 pub parted-so : (s front text : List ℕ) (letter : ℕ) → s ≡ front ++ 64 ∷ text → length front ≡ 1 → letter ≡ get_or front 0 0 → 65 ≤ letter → letter ≤ 90 → IsParted s letter text
 parted-so s [] text letter e n g low high = absurd (omega arith)

@@ -1,4 +1,5 @@
 pub mod Kinds
+pub mod Limits
 pub mod Nodegroups
 pub mod Words
 pub mod Grammar

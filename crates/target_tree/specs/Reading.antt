@@ -1,12 +1,13 @@
 -- The faults of a compound: a fold over its words that knows no tree.
-use Rattle.std.specs.Prelude.{◌≡◌, ℕ, zero, suc, ◌+◌, Bool, true, false, nat_le, List, [], ◌∷◌, length, if◌then◌else◌, Option, None, Some, Result, Ok, Err}
+use Rattle.std.specs.Prelude.{◌≡◌, ℕ, zero, suc, ◌+◌, Bool, true, false, nat_le, nat_lt, List, [], ◌∷◌, length, if◌then◌else◌, Option, None, Some, Result, Ok, Err}
 use Rattle.target_tree.specs.Nodegroups.{Group}
 use Rattle.target_tree.specs.declared.fault.TargetFault.{TargetFault}
 use Rattle.target_tree.specs.declared.fault.TargetFault.TheVariants.{NoMemory, Empty, TooLong, Word, Unclosed, TooDeep, TooManyWords, TooManyPatterns, UnknownGroup, Circle, BadLetter}
 use Rattle.target_tree.specs.declared.token.Token.{Token}
 use Rattle.target_tree.specs.declared.token.Token.TheVariants.{AndWord, OrWord, NotWord, OpenWord, CloseWord, Leaf, Pattern, Nodegroup, NoLetter, NoLeaf}
 use Rattle.target_tree.specs.Words.{tokens_of}
-use Rattle.target_tree.specs.Nodegroups.{text_of, is_among}
+use Rattle.target_tree.specs.Limits.{most_text_bytes, most_words, most_open, most_patterns}
+use Rattle.target_tree.specs.Nodegroups.{text_named, is_among}
 
 -- Of a parenthesis, or of a whole text: how many words `not` and `(` stood open where it began, and how many do now.
 pub record Nest : Type 0 where
@@ -40,9 +41,9 @@ abbrev pub ◌>>=◌ : {A B : Type 0} → Result A TargetFault → (A → Result
 (Err e) >>= f = Err e
 
 -- A fault that was answered is that of this reading, unless memory ran out.
-abbrev pub Fails : {A : Type 0} → TargetFault → Result A TargetFault → Type 0
-Fails NoMemory reading = Unit {0}
-Fails fault reading = reading ≡ Err fault
+abbrev pub IsFaultAsRead : {A : Type 0} → TargetFault → Result A TargetFault → Type 0
+IsFaultAsRead NoMemory reading = Unit {0}
+IsFaultAsRead fault reading = reading ≡ Err fault
 
 -- a word more was read
 abbrev pub read_on : State → State
@@ -63,12 +64,12 @@ ended s = record s { due = false; nest = fresh s.nest.around }
 -- a word where an operand is due; `group` reads a nodegroup's words
 abbrev pub operand_word : (List ℕ → State → Answer) → Token → State → Answer
 operand_word group NotWord s =
-    if nat_le 64 s.nest.deep then Err TooDeep else Ok (read_on (record s { nest = deeper s.nest }))
+    if nat_le most_open s.nest.deep then Err TooDeep else Ok (read_on (record s { nest = deeper s.nest }))
 operand_word group OpenWord s =
-    if nat_le 64 s.nest.deep then Err TooDeep else Ok (read_on (record s { nest = fresh (s.nest.deep + 1); nests = s.nest ∷ s.nests }))
+    if nat_le most_open s.nest.deep then Err TooDeep else Ok (read_on (record s { nest = fresh (s.nest.deep + 1); nests = s.nest ∷ s.nests }))
 operand_word group (Leaf t) s = Ok (ended (read_on s))
 operand_word group (Pattern t) s =
-    if nat_le 16 s.patterns then Err TooManyPatterns else Ok (ended (read_on (record s { patterns = s.patterns + 1 })))
+    if nat_le most_patterns s.patterns then Err TooManyPatterns else Ok (ended (read_on (record s { patterns = s.patterns + 1 })))
 operand_word group (Nodegroup name) s = group name s
 operand_word group NoLetter s = Err (BadLetter s.at)
 operand_word group AndWord s = Err (Word s.at)
@@ -97,7 +98,7 @@ operator_word NoLeaf s = Err (Word s.at)
 -- a word: too many words come before its other faults
 abbrev pub one_word : (List ℕ → State → Answer) → Token → State → Answer
 one_word group word s =
-    if nat_le 256 s.at then Err TooManyWords else if s.due then operand_word group word s else operator_word word s
+    if nat_le most_words s.at then Err TooManyWords else if s.due then operand_word group word s else operator_word word s
 
 -- words from left to right
 abbrev pub all_words : (List ℕ → State → Answer) → List Token → State → Answer
@@ -117,7 +118,7 @@ text_end s = if s.due then Err (Word s.at) else closed s.nests s
 abbrev pub whole_text : (List ℕ → State → Answer) → List ℕ → State → Result Counts TargetFault
 whole_text group text s =
     if nat_le (length (tokens_of text)) 0 then Err Empty
-    else if nat_le 4097 (length text) then Err TooLong
+    else if nat_lt most_text_bytes (length text) then Err TooLong
     else all_words group (tokens_of text) s >>= text_end
 
 -- where a text begins: an operand is due, and what stands open is around it
@@ -140,4 +141,4 @@ found group names name s (Some text) =
 -- Each text within a text follows a word, so no more than 256 lie in one another.
 unfoldable pub group_word : ℕ → List Group → List (List ℕ) → List ℕ → State → Answer
 group_word zero groups names name s = Err TooManyWords
-group_word (suc depth) groups names name s = found (group_word depth groups) names name s (text_of groups name)
+group_word (suc depth) groups names name s = found (group_word depth groups) names name s (text_named groups name)

@@ -1,17 +1,18 @@
 -- What `read_target` answers.
-use Rattle.std.specs.Prelude.{ℕ, nat_le, List, [], ◌∷◌, length, if◌then◌else◌, Result, Ok, Err, IsOk}
+use Rattle.std.specs.Prelude.{ℕ, ◌+◌, nat_le, nat_lt, List, [], ◌∷◌, length, if◌then◌else◌, Result, Ok, Err, IsOk}
 use Rattle.target_tree.specs.Nodegroups.{Group}
 use Rattle.target_tree.specs.declared.kind.Kind.{Kind}
 use Rattle.target_tree.specs.declared.kind.Kind.TheVariants.{Glob, Pcre, List as ListKind, Grain, GrainPcre as GrainPcreKind, Pillar, PillarPcre as PillarPcreKind, Nodegroup, Compound}
 use Rattle.target_tree.specs.declared.target.Target.{Target}
 use Rattle.target_tree.specs.declared.target.Target.TheVariants.{IdGlob, IdPcre, GrainGlob, GrainPcre, PillarGlob, PillarPcre}
 use Rattle.target_tree.specs.declared.fault.TargetFault.{TargetFault}
-use Rattle.target_tree.specs.declared.fault.TargetFault.TheVariants.{Empty, TooLong, TooDeep, TooManyWords, TooManyPatterns}
+use Rattle.target_tree.specs.declared.fault.TargetFault.TheVariants.{NoMemory, Empty, TooLong, TooDeep, TooManyWords, TooManyPatterns}
 use Rattle.target_tree.specs.declared.token.Token.{Token}
 use Rattle.target_tree.specs.declared.token.Token.TheVariants.{Leaf, Pattern, Nodegroup as GroupWord, NoLeaf}
+use Rattle.target_tree.specs.Limits.{most_text_bytes, most_words}
 use Rattle.target_tree.specs.Words.{id_list, tokens_of}
 use Rattle.target_tree.specs.Grammar.{compound, Stands}
-use Rattle.target_tree.specs.Reading.{Counts, Fails, text_end, begun, all_words, group_word, ◌>>=◌}
+use Rattle.target_tree.specs.Reading.{Counts, IsFaultAsRead, text_end, begun, all_words, group_word, ◌>>=◌}
 
 -- the one word that the text of another kind than compound is
 abbrev pub sole_word : Kind → List ℕ → Token
@@ -35,17 +36,17 @@ target_words kind (b ∷ bytes) = sole_word kind (b ∷ bytes) ∷ []
 abbrev pub reading : Kind → List Group → List ℕ → Result Counts TargetFault
 reading kind groups text =
     if nat_le (length (target_words kind text)) 0 then Err Empty
-    else if nat_le 4097 (length text) then Err TooLong
-    else all_words (group_word 257 groups []) (target_words kind text) (begun 0 0 0) >>= text_end
+    else if nat_lt most_text_bytes (length text) then Err TooLong
+    else all_words (group_word (most_words + 1) groups []) (target_words kind text) (begun 0 0 0) >>= text_end
 
 -- the text of this kind stands for this tree
 abbrev pub IsTarget : Kind → List Group → List ℕ → Target → Type 0
 IsTarget kind groups text tree = Stands groups [] compound (target_words kind text) tree
 
 -- A tree is answered where the reading has no fault; a fault that isn't want of memory is that of the reading.
-abbrev pub Answers : Result Target TargetFault → Result Counts TargetFault → Type 0
-Answers (Ok tree) read = IsOk read
-Answers (Err fault) read = Fails fault read
+abbrev pub IsAsRead : Result Target TargetFault → Result Counts TargetFault → Type 0
+IsAsRead (Ok tree) read = IsOk read
+IsAsRead (Err fault) read = IsFaultAsRead fault read
 
 -- a limit, which also words that stand for a tree may pass
 abbrev pub IsLimit : TargetFault → Type 0
@@ -54,6 +55,12 @@ IsLimit TooDeep = Unit {0}
 IsLimit TooManyWords = Unit {0}
 IsLimit TooManyPatterns = Unit {0}
 IsLimit _ = ⊥
+
+-- A tree is answered, or a limit was passed, or memory ran out.
+abbrev pub IsReadUnlessRefused : Result Target TargetFault → Type 0
+IsReadUnlessRefused (Ok tree) = Unit {0}
+IsReadUnlessRefused (Err NoMemory) = Unit {0}
+IsReadUnlessRefused (Err fault) = IsLimit fault
 
 -- the reading has no fault but a limit
 abbrev pub IsReadUnlessLimit : Result Counts TargetFault → Type 0

@@ -1,8 +1,9 @@
+//! Lists of ids.
 ghost use Rattle.std.specs.Prelude.{◌≡◌, true, false, reverse, IfOk, MatchOption};
 ghost use Rattle.target_tree.specs.Words.{id_list, is_id, trimmed, without_spaces};
 
 use crate::Target;
-use crate::token::Token;
+use crate::token::{Token, leaf};
 use salt_value::MinionId;
 use sqlite_items::Items;
 use std::alloc::{AllocError, Global};
@@ -61,5 +62,5 @@ pub fn id_list_of(alloc: Global, text: &str) -> Result<Token, AllocError>
         return Ok(Token::NoLeaf);
     };
     ids.push(id)?;
-    Ok(Token::Leaf(Target::IdList(ids)))
+    leaf(alloc, Target::IdList(ids))
 }

@@ -1,16 +1,18 @@
+//! The reading of a whole target.
 ghost use Rattle.std.specs.Prelude.{◌≡◌, ◌≢◌, IfOk, IsOk};
 ghost use Rattle.target_tree.specs.declared.target.Target.{Target as Tree};
 ghost use Rattle.target_tree.specs.declared.kind.Kind.{Kind as AnyKind};
 ghost use Rattle.target_tree.specs.Nodegroups.{Group};
 ghost use Rattle.std.specs.Prelude.{ℕ, List};
 ghost use Rattle.target_tree.specs.Machine.{Gives, machine_tree};
-ghost use Rattle.target_tree.specs.Targets.{IsTarget, IsReadUnlessLimit, Answers, reading, sole_word};
+ghost use Rattle.target_tree.specs.Targets.{IsTarget, IsReadUnlessLimit, IsReadUnlessRefused, IsAsRead, reading, sole_word};
 
 use crate::items::id_list_of;
+use crate::limits::MOST_TEXT_BYTES;
 use crate::reader::Reader;
 use crate::run::{checked, one_word, run};
 use crate::stack::Stack;
-use crate::token::{Token, to_text};
+use crate::token::{Token, leaf, pattern, to_text};
 use crate::{Groups, Kind, Target, TargetFault};
 use std::alloc::{AllocError, Global};
 
@@ -24,17 +26,17 @@ pub fn trees_are_read()
 fn sole_token(alloc: Global, kind: Kind, text: &str) -> Result<Token, AllocError>
     ensures { IfOk result (λ t. t ≡ sole_word kind text.now) }
 {
-    Ok(match kind {
-        Kind::Glob => Token::Leaf(Target::IdGlob(to_text(alloc, text)?)),
-        Kind::Pcre => Token::Pattern(Target::IdPcre(to_text(alloc, text)?)),
-        Kind::List => return id_list_of(alloc, text),
-        Kind::Grain => Token::Leaf(Target::GrainGlob(to_text(alloc, text)?)),
-        Kind::GrainPcre => Token::Pattern(Target::GrainPcre(to_text(alloc, text)?)),
-        Kind::Pillar => Token::Leaf(Target::PillarGlob(to_text(alloc, text)?)),
-        Kind::PillarPcre => Token::Pattern(Target::PillarPcre(to_text(alloc, text)?)),
-        Kind::Nodegroup => Token::Nodegroup(to_text(alloc, text)?),
-        Kind::Compound => Token::NoLeaf,
-    })
+    match kind {
+        Kind::Glob => leaf(alloc, Target::IdGlob(to_text(alloc, text)?)),
+        Kind::Pcre => pattern(alloc, Target::IdPcre(to_text(alloc, text)?)),
+        Kind::List => id_list_of(alloc, text),
+        Kind::Grain => leaf(alloc, Target::GrainGlob(to_text(alloc, text)?)),
+        Kind::GrainPcre => pattern(alloc, Target::GrainPcre(to_text(alloc, text)?)),
+        Kind::Pillar => leaf(alloc, Target::PillarGlob(to_text(alloc, text)?)),
+        Kind::PillarPcre => pattern(alloc, Target::PillarPcre(to_text(alloc, text)?)),
+        Kind::Nodegroup => Ok(Token::Nodegroup(to_text(alloc, text)?)),
+        Kind::Compound => Ok(Token::NoLeaf),
+    }
 }
 
 fn read_compound<'a>(
@@ -66,7 +68,7 @@ fn read_sole<'a>(
     if text.is_empty() {
         return Err(TargetFault::Empty);
     }
-    if text.len() > 4096 {
+    if text.len() > MOST_TEXT_BYTES {
         return Err(TargetFault::TooLong);
     }
     let word = sole_token(alloc, kind, text)?;
@@ -100,10 +102,14 @@ pub fn read_target(
     groups: &Groups,
 ) -> Result<Target, TargetFault>
     // What is read stands for this tree, and for no other.
-    ensures tree { IfOk result (IsTarget kind groups.now text.now) }
-    ensures only { IfOk result (λ tree. (other : Tree) → IsTarget kind groups.now text.now other → other ≡ tree) }
+    ensures ok { IfOk result (IsTarget kind groups.now text.now) }
     // Each fault comes exactly where the reading has it.
-    ensures fault { Answers result (reading kind groups.now text.now) }
+    ensures fault { IsAsRead result (reading kind groups.now text.now) }
+    // Every text that stands for a tree is read, but for the limits and memory.
+    ensures complete { (tree : Tree) → IsTarget kind groups.now text.now tree → IsReadUnlessRefused result }
+    ensures unique { IfOk result (λ tree. (other : Tree) → IsTarget kind groups.now text.now other → other ≡ tree) }
+    // The tree, as one function of the text.
+    ensures exact { Gives result (machine_tree kind groups.now text.now) }
 {
     read(alloc, kind, text, groups)
 }

@@ -1,6 +1,8 @@
+//! The reading of one text, word by word: what stands before its last operand, in each parenthesis that is open.
 ghost use Rattle.std.specs.Prelude.{◌≡◌, ◌-◌, ◌<◌, Ok, IfOk};
 ghost use Rattle.target_tree.specs.Machine.{Gives, fresh, mended, joined_and, joined_or, negations, machine_begun, machine_operand, machine_operator, machine_closing, machine_word, machine_end, machine_resumed, no_group};
 
+use crate::limits::{MOST_OPEN, MOST_PATTERNS, MOST_WORDS};
 use crate::stack::Stack;
 use crate::token::Token;
 use crate::{Target, TargetFault};
@@ -17,8 +19,8 @@ pub struct Nest {
 /// A parenthesis or a text: what stands before an `or` and an `and`.
 #[derive(Drop)]
 pub struct Part {
-    pub left_or: Option<Target>,
-    pub left_and: Option<Target>,
+    pub left_or: Option<Boxed<Target>>,
+    pub left_and: Option<Boxed<Target>>,
     pub nest: Nest,
 }
 
@@ -26,7 +28,7 @@ pub struct Part {
 #[derive(Drop)]
 pub struct Reader {
     /// The operand that ended, with those that `and` joined to it.
-    pub last: Option<Target>,
+    pub last: Option<Boxed<Target>>,
     pub part: Part,
     pub parts: Stack<Part>,
     pub at: u32,
@@ -36,20 +38,20 @@ pub struct Reader {
 /// A text that was read.
 #[derive(Drop)]
 pub struct Ended {
-    pub tree: Target,
+    pub tree: Boxed<Target>,
     pub at: u32,
     pub patterns: u32,
 }
 
 /// The tree under one `not` more.
-fn under_not(alloc: Global, tree: Target) -> Result<Target, AllocError>
+fn under_not(alloc: Global, tree: Boxed<Target>) -> Result<Boxed<Target>, AllocError>
     ensures { IfOk result (λ t. t ≡ Target.Not tree) }
 {
-    Ok(Target::Not(Boxed::new(alloc, tree)?))
+    Boxed::new(alloc, Target::Not(tree))
 }
 
 /// The tree under each `not` that stands open.
-fn negated(alloc: Global, tree: Target, nest: Nest) -> Result<Target, AllocError>
+fn negated(alloc: Global, tree: Boxed<Target>, nest: Nest) -> Result<Boxed<Target>, AllocError>
     ensures { IfOk result (λ t. t ≡ negations (nest.deep - nest.around) tree) }
 {
     let mut tree = tree;
@@ -59,29 +61,29 @@ fn negated(alloc: Global, tree: Target, nest: Nest) -> Result<Target, AllocError
     Ok(tree)
 }
 
-fn both(alloc: Global, left: Option<Target>, right: Target) -> Result<Target, AllocError>
+fn both(
+    alloc: Global,
+    left: Option<Boxed<Target>>,
+    right: Boxed<Target>,
+) -> Result<Boxed<Target>, AllocError>
     ensures { IfOk result (λ t. t ≡ joined_and left right) }
 {
     match left {
         None => Ok(right),
-        Some(left) => {
-            let left = Boxed::new(alloc, left)?;
-            let right = Boxed::new(alloc, right)?;
-            Ok(Target::And(left, right))
-        }
+        Some(left) => Boxed::new(alloc, Target::And(left, right)),
     }
 }
 
-fn either(alloc: Global, left: Option<Target>, right: Target) -> Result<Target, AllocError>
+fn either(
+    alloc: Global,
+    left: Option<Boxed<Target>>,
+    right: Boxed<Target>,
+) -> Result<Boxed<Target>, AllocError>
     ensures { IfOk result (λ t. t ≡ joined_or left right) }
 {
     match left {
         None => Ok(right),
-        Some(left) => {
-            let left = Boxed::new(alloc, left)?;
-            let right = Boxed::new(alloc, right)?;
-            Ok(Target::Or(left, right))
-        }
+        Some(left) => Boxed::new(alloc, Target::Or(left, right)),
     }
 }
 
@@ -113,7 +115,7 @@ impl Reader {
     }
 
     /// After an operand.
-    fn mend(self, alloc: Global, tree: Target) -> Result<Reader, AllocError>
+    fn mend(self, alloc: Global, tree: Boxed<Target>) -> Result<Reader, AllocError>
         ensures { IfOk result (λ r. r ≡ mended tree self) }
     {
         let Reader {
@@ -166,7 +168,7 @@ impl Reader {
         ensures { Gives result (machine_operand no_group Token.NotWord self) }
     {
         let mut reader = self;
-        if reader.part.nest.deep >= 64 {
+        if reader.part.nest.deep >= MOST_OPEN {
             return Err(TargetFault::TooDeep);
         }
         reader.part.nest.deep += 1;
@@ -185,7 +187,7 @@ impl Reader {
             at,
             patterns,
         } = self;
-        if part.nest.deep >= 64 {
+        if part.nest.deep >= MOST_OPEN {
             return Err(TargetFault::TooDeep);
         }
         let inner = Part {
@@ -204,7 +206,7 @@ impl Reader {
         })
     }
 
-    fn leaf(self, alloc: Global, tree: Target) -> Result<Reader, TargetFault>
+    fn leaf(self, alloc: Global, tree: Boxed<Target>) -> Result<Reader, TargetFault>
         requires { self.at < 256 }
         ensures { Gives result (machine_operand no_group (Token.Leaf tree) self) }
     {
@@ -213,12 +215,12 @@ impl Reader {
         Ok(reader.mend(alloc, tree)?)
     }
 
-    fn pattern(self, alloc: Global, tree: Target) -> Result<Reader, TargetFault>
+    fn pattern(self, alloc: Global, tree: Boxed<Target>) -> Result<Reader, TargetFault>
         requires { self.at < 256 }
         ensures { Gives result (machine_operand no_group (Token.Pattern tree) self) }
     {
         let mut reader = self;
-        if reader.patterns >= 16 {
+        if reader.patterns >= MOST_PATTERNS {
             return Err(TargetFault::TooManyPatterns);
         }
         reader.patterns += 1;
@@ -227,7 +229,12 @@ impl Reader {
     }
 
     /// After a word where none is due.
-    fn operator(self, alloc: Global, last: Target, word: Token) -> Result<Reader, TargetFault>
+    fn operator(
+        self,
+        alloc: Global,
+        last: Boxed<Target>,
+        word: Token,
+    ) -> Result<Reader, TargetFault>
         requires { self.at < 256 }
         ensures { Gives result (machine_operator last word self) }
     {
@@ -240,7 +247,7 @@ impl Reader {
         }
     }
 
-    fn after_and(self, last: Target) -> Result<Reader, TargetFault>
+    fn after_and(self, last: Boxed<Target>) -> Result<Reader, TargetFault>
         requires { self.at < 256 }
         ensures { Gives result (machine_operator last Token.AndWord self) }
     {
@@ -269,7 +276,7 @@ impl Reader {
         })
     }
 
-    fn after_or(self, alloc: Global, last: Target) -> Result<Reader, TargetFault>
+    fn after_or(self, alloc: Global, last: Boxed<Target>) -> Result<Reader, TargetFault>
         requires { self.at < 256 }
         ensures { Gives result (machine_operator last Token.OrWord self) }
     {
@@ -299,7 +306,7 @@ impl Reader {
         })
     }
 
-    fn close(self, alloc: Global, last: Target) -> Result<Reader, TargetFault>
+    fn close(self, alloc: Global, last: Boxed<Target>) -> Result<Reader, TargetFault>
         requires { self.at < 256 }
         ensures { Gives result (machine_closing last self.parts self) }
     {
@@ -337,7 +344,7 @@ impl Reader {
         ensures { Gives result (machine_word no_group word self) }
     {
         let mut reader = self;
-        if reader.at >= 256 {
+        if reader.at >= MOST_WORDS {
             return Err(TargetFault::TooManyWords);
         }
         match reader.last.take() {

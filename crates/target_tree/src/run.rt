@@ -1,9 +1,11 @@
+//! The reading of a text and of those that its nodegroups stand for.
 ghost use Rattle.std.specs.Prelude.{◌≡◌, ◌+◌, ◌-◌, ◌≤◌, ◌<◌, ◌∷◌, Ok, IfOk, IfErr, OnOk, length};
 ghost use Rattle.target_tree.specs.Words.{tokens_of, token};
 ghost use Rattle.target_tree.specs.Nodegroups.{is_among};
 ghost use Rattle.target_tree.specs.Machine.{Gives, machine_begun};
 ghost use Rattle.target_tree.specs.Going.{GivesBy, GoesOn, going, entered, opened, within, names_of};
 
+use crate::limits::{MOST_TEXT_BYTES, MOST_WORDS};
 use crate::reader::{Ended, Reader};
 use crate::stack::Stack;
 use crate::token::{Token, token_of};
@@ -39,7 +41,7 @@ pub fn checked<'a>(text: &'a str) -> Result<&'a str, TargetFault>
     let Some((_word, _more)) = next_word(text) else {
         return Err(TargetFault::Empty);
     };
-    if text.len() > 4096 {
+    if text.len() > MOST_TEXT_BYTES {
         return Err(TargetFault::TooLong);
     }
     Ok(text)
@@ -73,7 +75,7 @@ fn open_group<'a>(
     ensures { GivesBy (λ x. x.now) result (opened groups.entry.now (names_of outers.now) name.now reader.now) }
 {
     let at = reader.at;
-    if at >= 256 {
+    if at >= MOST_WORDS {
         return Err(TargetFault::TooManyWords);
     }
     match &reader.last {
@@ -171,7 +173,7 @@ pub fn run<'a>(
             None => {
                 let ended = reader.end(alloc)?;
                 let Some(outer) = outers.pop() else {
-                    return Ok(ended.tree);
+                    return Ok(ended.tree.into_inner());
                 };
                 reader = outer.reader.resume(alloc, ended)?;
                 rest = outer.rest;

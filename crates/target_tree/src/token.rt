@@ -1,3 +1,4 @@
+//! What a word is.
 ghost use Rattle.std.specs.Prelude.{◌≡◌, false, IfOk, MatchOption};
 ghost use Rattle.target_tree.specs.Words.{token, lettered, operand_token, is_paren, is_letter, is_lettered};
 ghost use Rattle.std.specs.List.{list_any};
@@ -6,6 +7,7 @@ ghost use Rattle.target_tree.specs.Parted.{IsParted};
 use crate::Target;
 use crate::items::id_list_of;
 use salt_value::Text;
+use sqlite_items::Boxed;
 use std::alloc::{AllocError, Global};
 
 /// What a word of a compound is.
@@ -16,8 +18,8 @@ pub enum Token {
     NotWord,
     OpenWord,
     CloseWord,
-    Leaf(Target),
-    Pattern(Target),
+    Leaf(Boxed<Target>),
+    Pattern(Boxed<Target>),
     Nodegroup(Text),
     /// A capital and an `@` that begin no leaf.
     NoLetter,
@@ -31,23 +33,37 @@ pub fn to_text(alloc: Global, text: &str) -> Result<Text, AllocError>
     Ok(Text::new(String::from_str(alloc, text)?))
 }
 
+/// The word of a leaf without a pattern.
+pub fn leaf(alloc: Global, tree: Target) -> Result<Token, AllocError>
+    ensures { IfOk result (λ t. t ≡ Token.Leaf tree) }
+{
+    Ok(Token::Leaf(Boxed::new(alloc, tree)?))
+}
+
+/// The word of a leaf with a pattern.
+pub fn pattern(alloc: Global, tree: Target) -> Result<Token, AllocError>
+    ensures { IfOk result (λ t. t ≡ Token.Pattern tree) }
+{
+    Ok(Token::Pattern(Boxed::new(alloc, tree)?))
+}
+
 /// The leaf of a letter, by the text after its `@`.
 #[tactic(auto, unfolding(crate::specs::Words::lettered))]
 fn lettered_of(alloc: Global, letter: u8, text: &str) -> Result<Token, AllocError>
     ensures { IfOk result (λ t. t ≡ lettered letter text.now) }
 {
     if letter == b'G' {
-        Ok(Token::Leaf(Target::GrainGlob(to_text(alloc, text)?)))
+        leaf(alloc, Target::GrainGlob(to_text(alloc, text)?))
     } else if letter == b'E' {
-        Ok(Token::Pattern(Target::IdPcre(to_text(alloc, text)?)))
+        pattern(alloc, Target::IdPcre(to_text(alloc, text)?))
     } else if letter == b'P' {
-        Ok(Token::Pattern(Target::GrainPcre(to_text(alloc, text)?)))
+        pattern(alloc, Target::GrainPcre(to_text(alloc, text)?))
     } else if letter == b'L' {
         id_list_of(alloc, text)
     } else if letter == b'I' {
-        Ok(Token::Leaf(Target::PillarGlob(to_text(alloc, text)?)))
+        leaf(alloc, Target::PillarGlob(to_text(alloc, text)?))
     } else if letter == b'J' {
-        Ok(Token::Pattern(Target::PillarPcre(to_text(alloc, text)?)))
+        pattern(alloc, Target::PillarPcre(to_text(alloc, text)?))
     } else if letter == b'N' {
         Ok(Token::Nodegroup(to_text(alloc, text)?))
     } else {
@@ -99,7 +115,7 @@ fn operand_of(alloc: Global, word: &str) -> Result<Token, AllocError>
             if has_paren(word) {
                 return Ok(Token::NoLeaf);
             }
-            Ok(Token::Leaf(Target::IdGlob(to_text(alloc, word)?)))
+            leaf(alloc, Target::IdGlob(to_text(alloc, word)?))
         }
         Some((letter, text)) => {
             if !text.is_empty() {

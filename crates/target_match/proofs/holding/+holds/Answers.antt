@@ -14,7 +14,7 @@ use Rattle.target_match.proofs.holding.+holds.Goals as goal
 pub returns-in-IdGlob-clause-value : goal.returns-in-IdGlob-clause-value
 returns-in-IdGlob-clause-value t c =
     let a = c.args in
-    c.glob.ensures.value ∙ ap (λ x. glob x c.as_bytes-in-IdGlob.result.now) c.as_bytes.ensures ∙ ap (glob c.in-IdGlob.text) c.as_bytes-in-IdGlob.ensures.value
+    c.glob.ensures.exact ∙ ap (λ x. glob x c.as_bytes-in-IdGlob.result.now) c.as_bytes.ensures ∙ ap (glob c.in-IdGlob.text) c.as_bytes-in-IdGlob.ensures.value
     ∙ sym (R.holds-IdGlob c.in-IdGlob.text a.id.now a.grains.now a.pillar.now) ∙ ap (λ x. holds (target_of x) a.id.now a.grains.now a.pillar.now) (sym c.in-IdGlob.is)
 
 pub returns-in-IdPcre-clause-value : goal.returns-in-IdPcre-clause-value

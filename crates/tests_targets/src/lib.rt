@@ -1,0 +1,15 @@
+//! Tests of globs, targets and their matching, by public calls alone.
+#![tactic(auto)]
+
+#[cfg(test)]
+mod data;
+#[cfg(test)]
+mod fleet;
+#[cfg(test)]
+mod groups;
+#[cfg(test)]
+mod kinds;
+#[cfg(test)]
+mod matching;
+#[cfg(test)]
+mod said;
