@@ -4,12 +4,13 @@ use Rattle.std.specs.Int.{Width, w8, w16, w32, w64, byte_len, to_be_bytes}
 use Rattle.std.specs.List.{list_all}
 use Rattle.std.proofs.lemmas.Bool.{ltb-false, le-ltb, leb-true, le-leb}
 use Rattle.std.proofs.lemmas.List.{take_at, drop_at, take-append-drop, length-take}
+use Rattle.salt_value.specs.Readers.{◌>>=◌, Reader, when, found}
 use Rattle.salt_value.specs.Id.{IsId, is_id_byte}
 use Rattle.salt_value.specs.Word.{IsWord, is_word_byte}
 use Rattle.salt_value.specs.Jid.{greatest_jid}
 use Rattle.salt_value.specs.Spelling.{bytes, text}
 use Rattle.salt_value.specs.WellFormed.{ValueFits, is_text}
-use Rattle.salt_value.specs.Decoding.{◌>>=◌, IsBytes, number_or, text_or, read_at}
+use Rattle.salt_value.specs.Decoding.{IsBytes, number_or, text_or, read_at}
 use Rattle.salt_value.specs.declared.fault.ValueFault.{ValueFault}
 use Rattle.salt_value.specs.declared.value.Value.{Value, roll-Value, out-Value, roll-out-Value, out-roll-Value}
 use Rattle.salt_value.specs.declared.value.Value.TheVariants as v
@@ -21,7 +22,7 @@ use Rattle.target_tree.specs.declared.kind.Kind.TheVariants as k
 use Rattle.salt_wire.specs.declared.fault.Misread.{Misread}
 use Rattle.salt_wire.specs.Spelling.{number, id, word}
 use Rattle.salt_wire.specs.Limits.{is_id, IsNumber, IsText}
-use Rattle.salt_wire.specs.Decoding.{Reader, bad, when, found, byte_field, number_field, text_field, short_text, counted_or, is_word, id_or, id_field, word_field, jid_field, kind_of, kind_field, value_or, value_field, items_layer, items_of, items_field, pairs_layer, pairs_of, fields_field}
+use Rattle.salt_wire.specs.Decoding.{bad, byte_field, number_field, text_field, short_text, counted_or, is_word, id_or, id_field, word_field, jid_field, kind_of, kind_field, value_or, value_field, items_layer, items_of, items_field, pairs_layer, pairs_of, fields_field}
 use Rattle.salt_wire.specs.RoundTrip.{Took, IsReadBack}
 use Rattle.salt_wire.proofs.FieldLemmas.{kind_of-code, kind_of-is}
 use Rattle.salt_wire.proofs.WriteLemmas.{both_true}
@@ -69,7 +70,7 @@ pub record Step {A C : Type 0} (spell : A → List ℕ) (Right : A → Type 0) (
   pub are_bytes : IsBytes rest
   pub gives : next (it, rest) ≡ Ok z
 
-pub step : {A C : Type 0} (spell : A → List ℕ) (Right : A → Type 0) (read : Reader A) → IsReadBack spell Right read → (next : A × List ℕ → Result C Misread) (b : List ℕ) (z : C)
+pub step : {A C : Type 0} (spell : A → List ℕ) (Right : A → Type 0) (read : Reader Misread A) → IsReadBack spell Right read → (next : A × List ℕ → Result C Misread) (b : List ℕ) (z : C)
     → IsBytes b → (read b >>= next) ≡ Ok z → Step spell Right next b z
 step spell Right read law next b z h e =
     let a = bind_ok (read b) next z e in
@@ -77,11 +78,11 @@ step spell Right read law next b z h e =
     record { it = a.0.0; rest = a.0.1; right = t.0; parts = t.1; are_bytes = t.2; gives = a.2 }
 
 -- what was written first is read, and then what was written after it
-pub again : {A C : Type 0} (spell : A → List ℕ) (Right : A → Type 0) (read : Reader A) → IsReadBack spell Right read → (next : A × List ℕ → Result C Misread) (x : A) (more rest : List ℕ)
+pub again : {A C : Type 0} (spell : A → List ℕ) (Right : A → Type 0) (read : Reader Misread A) → IsReadBack spell Right read → (next : A × List ℕ → Result C Misread) (x : A) (more rest : List ℕ)
     → Right x → (read ((spell x ++ more) ++ rest) >>= next) ≡ next (x, more ++ rest)
 again spell Right read law next x more rest h = ap (λ b. read b >>= next) (append_assoc (spell x) more rest) ∙ ap (λ r. r >>= next) (law.written x (more ++ rest) h)
 
-pub again_last : {A C : Type 0} (spell : A → List ℕ) (Right : A → Type 0) (read : Reader A) → IsReadBack spell Right read → (next : A × List ℕ → Result C Misread) (x : A) (rest : List ℕ)
+pub again_last : {A C : Type 0} (spell : A → List ℕ) (Right : A → Type 0) (read : Reader Misread A) → IsReadBack spell Right read → (next : A × List ℕ → Result C Misread) (x : A) (rest : List ℕ)
     → Right x → (read (spell x ++ rest) >>= next) ≡ next (x, rest)
 again_last spell Right read law next x rest h = ap (λ r. r >>= next) (law.written x rest h)
 

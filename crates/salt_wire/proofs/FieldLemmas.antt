@@ -7,13 +7,13 @@ use Rattle.std.proofs.lemmas.Str.Ascii.{IsAscii-from_all}
 use Rattle.std.proofs.lemmas.List.Elements.{All-nil, All-cons}
 use Rattle.std.proofs.lemmas.Bool.Decides.{nat_tests}
 use Rattle.std.proofs.lemmas.Bool.{eqb-true}
+use Rattle.salt_value.specs.Readers.{◌>>=◌, found}
 use Rattle.salt_value.specs.Word.{is_word_byte}
-use Rattle.salt_value.specs.Decoding.{◌>>=◌}
 use Rattle.target_tree.specs.Kinds.{TheKind, code_of}
 use Rattle.target_tree.specs.declared.kind.Kind.{Kind}
 use Rattle.target_tree.specs.declared.kind.Kind.TheVariants as k
 use Rattle.salt_wire.specs.declared.fault.Misread.{Misread}
-use Rattle.salt_wire.specs.Decoding.{is_word, bad, found, byte_field, kinds, kind_of, kind_field}
+use Rattle.salt_wire.specs.Decoding.{is_word, bad, byte_field, kinds, kind_of, kind_field}
 
 and_first : (a b : Bool) → (a && b) ≡ true → a ≡ true
 and_first a b e = grind arith

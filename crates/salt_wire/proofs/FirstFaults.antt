@@ -3,11 +3,12 @@ use Rattle.std.proofs.Common.{◌≡◌, ◌⊎◌, inl, inr, ℕ, zero, suc, �
 use Rattle.std.specs.Prelude.{IfErr, ◌≢◌}
 use Rattle.std.specs.Int.{Width, w8, w16, w32, w64}
 use Rattle.std.proofs.lemmas.Bool.{eqb-true, eqb-false, ne_eqb}
+use Rattle.salt_value.specs.Readers.{◌>>=◌, Reader, found, Answers}
 use Rattle.salt_value.specs.Id.{IsId}
 use Rattle.salt_value.specs.Word.{IsWord}
 use Rattle.salt_value.specs.Spelling.{bytes, text}
 use Rattle.salt_value.specs.WellFormed.{ValueFits}
-use Rattle.salt_value.specs.Decoding.{◌>>=◌, IsBytes, number_or, text_or, read_at}
+use Rattle.salt_value.specs.Decoding.{IsBytes, number_or, text_or, read_at}
 use Rattle.salt_value.specs.declared.fault.ValueFault.{ValueFault}
 use Rattle.salt_value.specs.declared.value.Value.{Value}
 use Rattle.target_tree.specs.declared.kind.Kind.{Kind}
@@ -20,9 +21,9 @@ use Rattle.salt_wire.specs.declared.message.Message.{Message}
 use Rattle.salt_wire.specs.declared.message.Message.TheVariants as m
 use Rattle.salt_wire.specs.Spelling.{number, id, word, tree, entry, kind_and_fields as spelled}
 use Rattle.salt_wire.specs.Limits.{is_id, IsNumber, IsText, TreeFits, EntryFits, Within}
-use Rattle.salt_wire.specs.Decoding.{Reader, bad, found, byte_field, number_field, text_field, short_text, counted_or, is_word, id_field, word_field, jid_field, kind_field, value_or, value_field, items_field, fields_field, return_at, fired_at, start_at, mine_at, entry_after, entry_field, tree_field, job_field, pub_fields, have_fields, up_fields, up_have_fields, hello_fields, ask_publish_fields, ask_report_fields, ask_mine_fields, status_field, answer_fields, client_fields, fields_of, kind_and_fields, nothing_after, message_at, placed, turned, decoded, Answers}
+use Rattle.salt_wire.specs.Decoding.{bad, byte_field, number_field, text_field, short_text, counted_or, is_word, id_field, word_field, jid_field, kind_field, value_or, value_field, items_field, fields_field, return_at, fired_at, start_at, mine_at, entry_after, entry_field, tree_field, job_field, pub_fields, have_fields, up_fields, up_have_fields, hello_fields, ask_publish_fields, ask_report_fields, ask_mine_fields, status_field, answer_fields, client_fields, fields_of, kind_and_fields, nothing_after, message_at, wire_fault, body_answer, decoded}
 use Rattle.salt_wire.specs.RoundTrip.{IsReadBack}
-use Rattle.salt_wire.specs.FirstFault.{Field, Number, Byte, Status, Jid, Id, Word, Text, ShortText, TargetKind, Tree, AnyValue, Items, Pairs, Entry, is_kind, fields, is_tag, entry_fields, Spelled, IsRight, Wrong, NoneStands, FirstWrong, EntryWrong, TreeWrong, FieldWrong, FirstFault}
+use Rattle.salt_wire.specs.FirstFault.{IsTold, Field, Number, Byte, Status, Jid, Id, Word, Text, ShortText, TargetKind, Tree, AnyValue, Items, Pairs, Entry, is_kind, fields, job_fields, is_tag, entry_fields, Spelled, IsRight, Wrong, NoneStands, FirstWrong, EntryWrong, TreeWrong, FieldWrong, FirstFault}
 use Rattle.salt_wire.proofs.Codec.{Lower, one_byte, IsByte, code, AnyKind, micros, IsJid, list_bytes, ListFits, map_bytes, MapFits, IsShortText, numbers, a_byte, texts, short_texts, ids, words, jids, kinds, values, lists, maps}
 use Rattle.salt_wire.proofs.MessageBack.{IsStatus, statuses, entries}
 
@@ -111,13 +112,8 @@ pairs_only b = both (bad b) _ _ (value_only b) (λ n. found_only (bad b) _ _)
 
 -- ---- a reader and where bytes are wrong for it
 
--- each fault that is met is told where the bytes are wrong, and is met where they are
-pub record IsTold {A : Type 0} (wrong : Wrong) (read : Reader A) : Type 0 where
-  pub met : (b : List ℕ) (e : Misread) → IsBytes b → read b ≡ Err e → (at : List ℕ) × wrong b at × (e ≡ BadField (length at))
-  pub first : (b at : List ℕ) → IsBytes b → wrong b at → read b ≡ Err (BadField (length at))
-
 -- a field that is told at its first byte
-pub at_front : {A : Type 0} (spell : A → List ℕ) (Right : A → Type 0) (read : Reader A) → IsReadBack spell Right read → ((b : List ℕ) → Only (bad b) (read b)) → IsTold (NoneStands (Spelled spell Right)) read
+pub at_front : {A : Type 0} (spell : A → List ℕ) (Right : A → Type 0) (read : Reader Misread A) → IsReadBack spell Right read → ((b : List ℕ) → Only (bad b) (read b)) → IsTold (NoneStands (Spelled spell Right)) read
 at_front {A} spell Right read law only = record { met = met; first = first } where
   met : (b : List ℕ) (e : Misread) → IsBytes b → read b ≡ Err e → (at : List ℕ) × NoneStands (Spelled spell Right) b at × (e ≡ BadField (length at))
   met b e h q = (
@@ -141,7 +137,7 @@ at_front {A} spell Right read law only = record { met = met; first = first } whe
 abbrev Chained : Wrong → (List ℕ → Type 0) → Wrong → Wrong
 Chained one Right more b at = one b at ⊎ ((front : List ℕ) × (rest : List ℕ) × Right front × (b ≡ front ++ rest) × more rest at)
 
-pub chain : {A C : Type 0} (spell : A → List ℕ) (Right : A → Type 0) (read : Reader A) (one more : Wrong) (next : A × List ℕ → Result (C × List ℕ) Misread) → IsReadBack spell Right read → IsTold one read
+pub chain : {A C : Type 0} (spell : A → List ℕ) (Right : A → Type 0) (read : Reader Misread A) (one more : Wrong) (next : A × List ℕ → Result (C × List ℕ) Misread) → IsReadBack spell Right read → IsTold one read
     → ((x : A) → IsTold more (λ b. next (x, b))) → IsTold (Chained one (Spelled spell Right) more) (λ b. read b >>= next)
 chain spell Right read one more next law told others = record {
   met = λ b e h q.
@@ -166,19 +162,19 @@ pub ended : {C : Type 0} (wrong : Field → Wrong) (c : C) → IsTold (FirstWron
 ended wrong c = record { met = λ b e h q. never (c, b) e q; first = λ b at h w. absurd w }
 
 -- what was read is made into another thing
-pub made_into : {A C : Type 0} (wrong : Wrong) (read : Reader A) (make : A → C) → IsTold wrong read → IsTold wrong (λ b. read b >>= λ x. Ok (make x.0, x.1))
+pub made_into : {A C : Type 0} (wrong : Wrong) (read : Reader Misread A) (make : A → C) → IsTold wrong read → IsTold wrong (λ b. read b >>= λ x. Ok (make x.0, x.1))
 made_into wrong read make told = record {
   met = λ b e h q. elim (bind_err (read b) (λ x. Ok (make x.0, x.1)) e q) [ inl p ↦ told.met b e h p | inr p ↦ never (make p.0.0, p.0.1) e p.2 ];
   first = λ b at h w. ap (λ r. r >>= λ x. Ok (make x.0, x.1)) (told.first b at h w);
 }
 
 -- what follows a number that may be in no row of a table
-record Row {A : Type 0} (wrong : Field → Wrong) (other : List ℕ → Misread) (known : Bool) (fs : List Field) (read : Reader A) : Type 0 where
+record Row {A : Type 0} (wrong : Field → Wrong) (other : List ℕ → Misread) (known : Bool) (fs : List Field) (read : Reader Misread A) : Type 0 where
   told : known ≡ true → IsTold (FirstWrong wrong fs) read
   unknown : known ≡ false → (b : List ℕ) → read b ≡ Err (other b)
   no_fields : known ≡ false → fs ≡ []
 
-row : {A : Type 0} (wrong : Field → Wrong) (other : List ℕ → Misread) (c known : Bool) (fs gs : List Field) (r s : Reader A) → IsTold (FirstWrong wrong fs) r → Row wrong other known gs s
+row : {A : Type 0} (wrong : Field → Wrong) (other : List ℕ → Misread) (c known : Bool) (fs gs : List Field) (r s : Reader Misread A) → IsTold (FirstWrong wrong fs) r → Row wrong other known gs s
     → Row wrong other (c || known) (cond c fs gs) (λ b. cond c (r b) (s b))
 row wrong other true known fs gs r s h k = record { told = λ e. h; unknown = λ e. absurd cc; no_fields = λ e. absurd cc }
 row wrong other false known fs gs r s h k = record { told = k.told; unknown = k.unknown; no_fields = k.no_fields }
@@ -195,7 +191,7 @@ Plain f = NoneStands (IsRight f)
 abbrev Then : Field → Wrong → Wrong
 Then f more = Chained (Plain f) (IsRight f) more
 
-plain : {A C : Type 0} (spell : A → List ℕ) (Right : A → Type 0) (read : Reader A) → IsReadBack spell Right read → ((b : List ℕ) → Only (bad b) (read b)) → (more : Wrong) (next : A × List ℕ → Result (C × List ℕ) Misread)
+plain : {A C : Type 0} (spell : A → List ℕ) (Right : A → Type 0) (read : Reader Misread A) → IsReadBack spell Right read → ((b : List ℕ) → Only (bad b) (read b)) → (more : Wrong) (next : A × List ℕ → Result (C × List ℕ) Misread)
     → ((x : A) → IsTold more (λ b. next (x, b))) → IsTold (Chained (NoneStands (Spelled spell Right)) (Spelled spell Right) more) (λ b. read b >>= next)
 plain spell Right read law only more next others = chain spell Right read (NoneStands (Spelled spell Right)) more next law (at_front spell Right read law only) others
 
@@ -321,12 +317,18 @@ module _ (l : Lower) (trees : IsReadBack tree TreeFits tree_field) (tree_told : 
     by true c = ((tag_row w.0).told c).first w.1 at (IsBytes-rest w.0 w.1 (subst IsBytes w.2 h)) w.3
     by false c = absurd (subst (λ (fs : List Field). FirstWrong Plain fs w.1 at) ((tag_row w.0).no_fields c) w.3)
 
-  entry_told : IsTold EntryWrong entry_field
+  pub entry_told : IsTold EntryWrong entry_field
   entry_told = record { met = entry_met; first = entry_first }
 
   -- ---- the fields of messages
 
-  job_told : IsTold (FirstWrong FieldWrong (Jid ∷ TargetKind ∷ ShortText 4096 ∷ Tree ∷ Word ∷ Items ∷ [])) job_field
+  pub id_told : IsTold (FieldWrong Id) id_field
+  id_told = at_front id IsId id_field (ids l) (λ b. counted_only (bad b) w8 is_id b)
+
+  pub word_told : IsTold (FieldWrong Word) word_field
+  word_told = at_front word IsWord word_field (words l) (λ b. counted_only (bad b) w16 is_word b)
+
+  pub job_told : IsTold (FirstWrong FieldWrong job_fields) job_field
   unfolding job_field
   job_told =
       after_jid (FirstWrong FieldWrong (TargetKind ∷ ShortText 4096 ∷ Tree ∷ Word ∷ Items ∷ [])) _ (λ jid.
@@ -395,13 +397,13 @@ module _ (l : Lower) (trees : IsReadBack tree TreeFits tree_field) (tree_told : 
 
   -- ---- whole bodies
 
-  turned_err : (n : ℕ) (r : Result Message Misread) (e : WireFault) → turned n r ≡ Err e → (f : Misread) × (r ≡ Err f) × (e ≡ placed n f)
-  turned_err n (Ok x) e q = absurd cc
-  turned_err n (Err f) e q = (f, refl, cc)
+  body_answer_err : (n : ℕ) (r : Result Message Misread) (e : WireFault) → body_answer n r ≡ Err e → (f : Misread) × (r ≡ Err f) × (e ≡ wire_fault n f)
+  body_answer_err n (Ok x) e q = absurd cc
+  body_answer_err n (Err f) e q = (f, refl, cc)
 
   -- the fault of a body, by its place from the front
   abbrev IsFirst : List ℕ → Misread → Type 0
-  IsFirst b f = FirstFault b (placed (length b) f)
+  IsFirst b f = FirstFault b (wire_fault (length b) f)
 
   fields_fail : (b : List ℕ) (f : Misread) → IsBytes b → kind_and_fields b ≡ Err f → IsFirst (1 ∷ b) f
   unfolding kind_and_fields
@@ -443,7 +445,7 @@ module _ (l : Lower) (trees : IsReadBack tree TreeFits tree_field) (tree_told : 
 
     pub is_first : (b : List ℕ) (e : WireFault) → IsBytes b → decoded b ≡ Err e → FirstFault b e
     unfolding decoded
-    is_first b e h q = let t = turned_err (length b) (message_at b) e q in subst (FirstFault b) (sym t.2) (message_fails b t.0 h t.1)
+    is_first b e h q = let t = body_answer_err (length b) (message_at b) e q in subst (FirstFault b) (sym t.2) (message_fails b t.0 h t.1)
 
     -- ---- and back
 
@@ -458,9 +460,9 @@ module _ (l : Lower) (trees : IsReadBack tree TreeFits tree_field) (tree_told : 
       by true c = absurd (h b (ap (λ (n : ℕ). n ∷ b) (eqb-true version 1 c)))
       by false c = refl
 
-    versioned : (b rest : List ℕ) (f : Misread) → b ≡ 1 ∷ rest → after_version rest ≡ Err f → decoded b ≡ Err (placed (length b) f)
+    versioned : (b rest : List ℕ) (f : Misread) → b ≡ 1 ∷ rest → after_version rest ≡ Err f → decoded b ≡ Err (wire_fault (length b) f)
     unfolding decoded message_at
-    versioned b rest f e q = ap (λ (s : List ℕ). turned (length b) (message_at s)) e ∙ ap (turned (length b)) q
+    versioned b rest f e q = ap (λ (s : List ℕ). body_answer (length b) (message_at s)) e ∙ ap (body_answer (length b)) q
 
     kind_met : (rest : List ℕ) → ((kind : ℕ) (more : List ℕ) → rest ≡ kind ∷ more → is_kind kind ≡ false) → after_version rest ≡ Err BadKind
     unfolding kind_and_fields
@@ -482,7 +484,7 @@ module _ (l : Lower) (trees : IsReadBack tree TreeFits tree_field) (tree_told : 
     pub is_met : (b : List ℕ) (e : WireFault) → IsBytes b → FirstFault b e → decoded b ≡ Err e
     unfolding decoded
     is_met b faults.NoMemory h w = absurd w
-    is_met b faults.BadVersion h w = ap (turned (length b)) (version_met b w)
+    is_met b faults.BadVersion h w = ap (body_answer (length b)) (version_met b w)
     is_met b faults.BadKind h w = versioned b w.0 BadKind w.1 (kind_met w.0 w.2)
     is_met b (faults.BadField at) h w =
         versioned b (w.0 ∷ w.1) (BadField (length w.2)) w.3 (field_met w.0 w.1 w.2 (IsBytes-rest w.0 w.1 (IsBytes-rest 1 (w.0 ∷ w.1) (subst IsBytes w.3 h))) w.4)
@@ -493,10 +495,7 @@ module _ (l : Lower) (trees : IsReadBack tree TreeFits tree_field) (tree_told : 
         versioned b (spelled w.0 ++ w.1) (Trailing (length w.1)) w.4 (trailing_met w.0 w.1 w.2 w.3) ∙ ap (λ (n : ℕ). Err (faults.Trailing n)) place
 
 -- what was answered is the first fault, unless memory ran out
-pub answer_is_first : (b : List ℕ) (r : Result Message WireFault) → IsBytes b → ((b : List ℕ) (e : WireFault) → IsBytes b → decoded b ≡ Err e → FirstFault b e) → Answers r (decoded b) → IfErr r (λ e. e ≢ faults.NoMemory → FirstFault b e)
+pub answer_is_first : (b : List ℕ) (r : Result Message WireFault) → IsBytes b → ((b : List ℕ) (e : WireFault) → IsBytes b → decoded b ≡ Err e → FirstFault b e) → Answers faults.NoMemory r (decoded b) → IfErr r (λ e. e ≢ faults.NoMemory → FirstFault b e)
 answer_is_first b (Ok x) h first given = tt
-answer_is_first b (Err faults.NoMemory) h first given = λ ne. absurd (ne refl)
-answer_is_first b (Err faults.BadVersion) h first given = λ ne. first b faults.BadVersion h given
-answer_is_first b (Err faults.BadKind) h first given = λ ne. first b faults.BadKind h given
-answer_is_first b (Err (faults.BadField at)) h first given = λ ne. first b (faults.BadField at) h given
-answer_is_first b (Err (faults.Trailing at)) h first given = λ ne. first b (faults.Trailing at) h given
+answer_is_first b (Err e) h first (inl p) = λ ne. absurd (ne p)
+answer_is_first b (Err e) h first (inr q) = λ ne. first b e h q

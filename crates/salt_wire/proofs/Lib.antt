@@ -1,9 +1,7 @@
 pub mod Bodies
 pub mod Codec
-pub mod FieldFaults
 pub mod FieldLemmas
 pub mod FirstFaults
-pub mod LoopLemmas
 pub mod MessageBack
 pub mod TreeBack
 pub mod TreeFaults

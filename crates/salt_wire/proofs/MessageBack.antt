@@ -2,6 +2,7 @@
 use Rattle.std.proofs.Common.{◌≡◌, ℕ, suc, ◌<◌, ◌≤◌, Bool, true, false, cond, eqb, List, [], ◌∷◌, ◌++◌, length, Result, Ok, refl, sym, ap, subst, ◌∙◌, arith, ◌⊎◌, inl, inr}
 use Rattle.std.proofs.lemmas.Bool.{eqb-true}
 use Rattle.std.proofs.lemmas.Bool.Decides.{nat_tests}
+use Rattle.salt_value.specs.Readers.{when}
 use Rattle.salt_value.specs.Id.{IsId}
 use Rattle.salt_value.specs.Word.{IsWord}
 use Rattle.salt_value.specs.Jid.{greatest_jid}
@@ -19,7 +20,7 @@ use Rattle.salt_wire.specs.declared.message.Message.{Message}
 use Rattle.salt_wire.specs.declared.message.Message.TheVariants as m
 use Rattle.salt_wire.specs.Spelling.{number, id, word, tree, job, entry, kind_and_fields as spelled}
 use Rattle.salt_wire.specs.Limits.{IsNumber, IsText, TreeFits, JobFits, EntryFits, is_status, Within}
-use Rattle.salt_wire.specs.Decoding.{bad, when, byte_field, number_field, text_field, short_text, id_field, word_field, jid_field, kind_field, value_field, items_field, fields_field, return_at, fired_at, start_at, mine_at, entry_after, entry_field, tree_field, job_field, pub_fields, have_fields, up_fields, up_have_fields, hello_fields, ask_publish_fields, ask_report_fields, ask_mine_fields, status_field, answer_fields, client_fields, fields_of, kind_and_fields}
+use Rattle.salt_wire.specs.Decoding.{bad, byte_field, number_field, text_field, short_text, id_field, word_field, jid_field, kind_field, value_field, items_field, fields_field, return_at, fired_at, start_at, mine_at, entry_after, entry_field, tree_field, job_field, pub_fields, have_fields, up_fields, up_have_fields, hello_fields, ask_publish_fields, ask_report_fields, ask_mine_fields, status_field, answer_fields, client_fields, fields_of, kind_and_fields}
 use Rattle.salt_wire.specs.RoundTrip.{Took, IsReadBack}
 use Rattle.salt_wire.proofs.Codec.{Lower, one_byte, IsByte, code, AnyKind, micros, IsJid, list_bytes, ListFits, map_bytes, MapFits, IsShortText, bind_ok, ok_is, when_ok, join, step, again, again_last, numbers, a_byte, texts, short_texts, ids, words, jids, kinds, values, lists, maps}
 

@@ -3,9 +3,10 @@ use Rattle.std.proofs.Common.{◌≡◌, ℕ, zero, suc, ◌+◌, ◌-◌, ◌<�
 use Rattle.std.specs.Int.{w16, to_be_bytes}
 use Rattle.std.specs.List.{list_all}
 use Rattle.std.proofs.lemmas.Bool.{leb-true, le-leb, eqb-true, ne_eqb, or_cases}
+use Rattle.salt_value.specs.Readers.{◌>>=◌, when, several}
 use Rattle.salt_value.specs.Spelling.{text, joined}
 use Rattle.salt_value.specs.WellFormed.{is_text}
-use Rattle.salt_value.specs.Decoding.{◌>>=◌, IsBytes, number_or}
+use Rattle.salt_value.specs.Decoding.{IsBytes, number_or}
 use Rattle.target_tree.specs.declared.target.Target.{Target, out-Target, roll-Target, roll-out-Target}
 use Rattle.target_tree.specs.declared.target.Target.TheVariants as t
 use Rattle.target_tree.specs.declared.target.Target.TheVariants.{rolls-IdGlob, rolls-IdPcre, rolls-IdList, rolls-GrainGlob, rolls-GrainPcre, rolls-PillarGlob, rolls-PillarPcre, rolls-Not, rolls-And, rolls-Or}
@@ -15,7 +16,7 @@ use Rattle.salt_wire.specs.declared.fault.Misread.TheVariants.{BadField}
 use Rattle.salt_wire.specs.declared.tree.Room.{Room}
 use Rattle.salt_wire.specs.Spelling.{id, tree, tree_layer}
 use Rattle.salt_wire.specs.Limits.{is_id, is_leaf_text, right, right_layer, nodes, nodes_layer, patterns, patterns_layer, TreeFits}
-use Rattle.salt_wire.specs.Decoding.{bad, when, byte_field, text_field, id_or, several, is_pattern_tag, room_after, with_room, tag_field, leaf_text, leaf_ids, is_text_tag, leaf, text_node, list_node, not_node, and_node, or_node, node_after, tree_at, whole_room, tree_field}
+use Rattle.salt_wire.specs.Decoding.{bad, byte_field, text_field, id_or, is_pattern_tag, room_after, with_room, tag_field, leaf_text, leaf_ids, is_text_tag, leaf, text_node, list_node, not_node, and_node, or_node, node_after, tree_at, whole_room, tree_field}
 use Rattle.salt_wire.specs.RoundTrip.{Took, IsReadBack}
 use Rattle.salt_wire.proofs.TreeLayers.{at-IdGlob, at-IdPcre, at-IdList, at-GrainGlob, at-GrainPcre, at-PillarGlob, at-PillarPcre, at-Not, at-And, at-Or}
 use Rattle.salt_wire.proofs.Codec.{Lower, bind_ok, ok_is, when_ok, both, join, one_byte, IsByte, a_byte, texts, ids_or, is_id-IsId, IsId-is_id}

@@ -4,8 +4,9 @@ use Rattle.std.specs.Int.{w8, w16, to_be_bytes}
 use Rattle.std.specs.List.{list_all}
 use Rattle.std.proofs.lemmas.Bool.{leb-true, le-leb}
 use Rattle.std.proofs.lemmas.List.Sums.{sum_by-cons}
+use Rattle.salt_value.specs.Readers.{◌>>=◌, when, several}
 use Rattle.salt_value.specs.Spelling.{text, joined}
-use Rattle.salt_value.specs.Decoding.{◌>>=◌, IsBytes}
+use Rattle.salt_value.specs.Decoding.{IsBytes}
 use Rattle.target_tree.specs.declared.target.Target.{Target}
 use Rattle.target_tree.specs.declared.target.Target.TheVariants as t
 use Rattle.salt_wire.specs.declared.fault.Misread.{Misread}
@@ -13,7 +14,7 @@ use Rattle.salt_wire.specs.declared.fault.Misread.TheVariants.{BadField}
 use Rattle.salt_wire.specs.declared.tree.Room.{Room}
 use Rattle.salt_wire.specs.Spelling.{id}
 use Rattle.salt_wire.specs.Limits.{is_id}
-use Rattle.salt_wire.specs.Decoding.{bad, when, id_or, several, ends_before, is_text_tag, is_pattern_tag, room_after, with_room, tag_field, leaf_text, leaf_ids, leaf, text_node, list_node, not_node, and_node, or_node, node_after, tree_at, whole_room, tree_field}
+use Rattle.salt_wire.specs.Decoding.{bad, id_or, ends_before, is_text_tag, is_pattern_tag, room_after, with_room, tag_field, leaf_text, leaf_ids, leaf, text_node, list_node, not_node, and_node, or_node, node_after, tree_at, whole_room, tree_field}
 use Rattle.salt_wire.specs.FirstFault.{After, LeafText, LeafIds, Subtrees, NoNode, after, is_node, subtrees, AreIds, IsAfter, Node, nodes_bytes, pattern_leaves, Unended, InLimits, NodeWrong, NodesWrong, TreeWrong}
 use Rattle.salt_wire.proofs.Codec.{Lower, bind_ok, ok_is}
 use Rattle.salt_wire.proofs.WriteLemmas.{both_true}

@@ -1,6 +1,6 @@
 -- A tree that may have more levels begins with a tag.
 use Rattle.std.proofs.Common.{◌≡◌, ℕ, suc, ◌-◌, ◌<◌, List, Err, ap, arith}
-use Rattle.salt_value.specs.Decoding.{◌>>=◌}
+use Rattle.salt_value.specs.Readers.{◌>>=◌}
 use Rattle.salt_wire.specs.declared.tree.Room.{Room}
 use Rattle.salt_wire.specs.Decoding.{bad, tag_field, node_after, tree_at}
 

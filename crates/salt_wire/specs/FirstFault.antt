@@ -1,5 +1,5 @@
 -- The first fault from the left of bytes that are no message: right fields, and then a wrong one.
-use Rattle.std.specs.Prelude.{◌≡◌, ◌⊎◌, ◌<◌, ◌≤◌, ◌+◌, ◌-◌, ◌==◌, if◌then◌else◌, ℕ, Bool, true, false, List, [], ◌∷◌, ◌++◌, length, map}
+use Rattle.std.specs.Prelude.{◌≡◌, ◌⊎◌, ◌<◌, ◌≤◌, ◌+◌, ◌-◌, ◌==◌, if◌then◌else◌, ℕ, Bool, true, false, List, [], ◌∷◌, ◌++◌, length, drop, map, Err}
 use Rattle.std.specs.List.{count_by, list_all, list_any}
 use Rattle.std.specs.Int.{w16, w64, to_be_bytes}
 use Rattle.salt_value.specs.Id.{IsId}
@@ -9,11 +9,17 @@ use Rattle.salt_value.specs.Spelling.{bytes, text, joined}
 use Rattle.salt_value.specs.WellFormed.{ValueFits}
 use Rattle.salt_value.specs.declared.value.Value.TheVariants as v
 use Rattle.target_tree.specs.Kinds.{code_of}
+use Rattle.salt_value.specs.Readers.{Reader}
+use Rattle.salt_value.specs.Decoding.{IsBytes}
+use Rattle.salt_wire.specs.declared.fault.Misread.{Misread}
+use Rattle.salt_wire.specs.declared.fault.Misread.TheVariants.{BadField}
 use Rattle.salt_wire.specs.declared.fault.WireFault.{WireFault}
 use Rattle.salt_wire.specs.declared.fault.WireFault.TheVariants as faults
 use Rattle.salt_wire.specs.declared.message.Message.{Message}
-use Rattle.salt_wire.specs.Spelling.{number, id, word, tree, entry, body}
-use Rattle.salt_wire.specs.Limits.{is_id, is_leaf_text, IsNumber, IsText, TreeFits, EntryFits, is_status, Within}
+use Rattle.salt_wire.specs.Codes as code
+use Rattle.salt_wire.specs.Codes.{message_code, message_kinds, entry_code, entry_kinds, node_code}
+use Rattle.salt_wire.specs.Spelling.{version, number, id, word, tree, entry, body}
+use Rattle.salt_wire.specs.Limits.{most_target_bytes, most_leaf_ids, most_nodes, most_patterns, most_tree_bytes, most_answer_bytes, is_id, is_leaf_text, IsNumber, IsText, TreeFits, EntryFits, is_status, Within}
 use Rattle.salt_wire.specs.Decoding.{is_text_tag, is_pattern_tag}
 
 -- the fields of messages and entries
@@ -37,27 +43,31 @@ pub data Field : Type 0 where
 
 -- the kinds of messages
 abbrev pub is_kind : ℕ → Bool
-is_kind kind = list_any (λ k. kind == k) (1 ∷ 2 ∷ 3 ∷ 4 ∷ 5 ∷ 6 ∷ 16 ∷ 17 ∷ 18 ∷ 19 ∷ 20 ∷ [])
+is_kind kind = list_any (λ k. kind == message_code k) message_kinds
+
+-- the fields of a job, in order
+abbrev pub job_fields : List Field
+job_fields = Jid ∷ TargetKind ∷ ShortText most_target_bytes ∷ Tree ∷ Word ∷ Items ∷ []
 
 -- the fields of a message of this kind, in order
 abbrev pub fields : ℕ → List Field
 fields kind =
-    if kind == 1 then Number ∷ Jid ∷ TargetKind ∷ ShortText 4096 ∷ Tree ∷ Word ∷ Items ∷ [] else if kind == 2 then Number ∷ []
-    else if kind == 3 then Id ∷ Number ∷ Entry ∷ [] else if kind == 4 then Id ∷ Number ∷ []
-    else if kind == 5 then Id ∷ [] else if kind == 6 then []
-    else if kind == 16 then TargetKind ∷ Text ∷ Word ∷ Items ∷ [] else if kind == 17 then Jid ∷ []
-    else if kind == 18 then [] else if kind == 19 then TargetKind ∷ Text ∷ Word ∷ []
-    else if kind == 20 then Status ∷ ShortText 1000000 ∷ [] else []
+    if kind == message_code code.Pub then Number ∷ job_fields else if kind == message_code code.Have then Number ∷ []
+    else if kind == message_code code.Up then Id ∷ Number ∷ Entry ∷ [] else if kind == message_code code.UpHave then Id ∷ Number ∷ []
+    else if kind == message_code code.Hello then Id ∷ [] else if kind == message_code code.End then []
+    else if kind == message_code code.AskPublish then TargetKind ∷ Text ∷ Word ∷ Items ∷ [] else if kind == message_code code.AskReport then Jid ∷ []
+    else if kind == message_code code.AskJobs then [] else if kind == message_code code.AskMine then TargetKind ∷ Text ∷ Word ∷ []
+    else if kind == message_code code.Answer then Status ∷ ShortText most_answer_bytes ∷ [] else []
 
 -- the tags of entries
 abbrev pub is_tag : ℕ → Bool
-is_tag tag = list_any (λ t. tag == t) (1 ∷ 2 ∷ 3 ∷ 4 ∷ [])
+is_tag tag = list_any (λ t. tag == entry_code t) entry_kinds
 
 -- the fields of an entry of this tag, in order
 abbrev pub entry_fields : ℕ → List Field
 entry_fields tag =
-    if tag == 1 then Number ∷ Byte ∷ AnyValue ∷ [] else if tag == 2 then Word ∷ AnyValue ∷ []
-    else if tag == 3 then Number ∷ [] else if tag == 4 then Number ∷ Pairs ∷ Pairs ∷ Pairs ∷ [] else []
+    if tag == entry_code code.Return then Number ∷ Byte ∷ AnyValue ∷ [] else if tag == entry_code code.Fired then Word ∷ AnyValue ∷ []
+    else if tag == entry_code code.Start then Number ∷ [] else if tag == entry_code code.Mine then Number ∷ Pairs ∷ Pairs ∷ Pairs ∷ [] else []
 
 -- ---- right fields
 
@@ -118,7 +128,7 @@ pub data After : Type 0 where
 -- the tags of nodes, by what stands after them
 abbrev pub after : ℕ → After
 after tag =
-    if tag == 3 then LeafIds else if tag == 8 then Subtrees 1 else if tag == 9 then Subtrees 2 else if tag == 10 then Subtrees 2
+    if tag == node_code code.IdList then LeafIds else if tag == node_code code.Not then Subtrees 1 else if tag == node_code code.And then Subtrees 2 else if tag == node_code code.Or then Subtrees 2
     else if is_text_tag tag then LeafText else NoNode
 
 -- a node has this tag
@@ -131,9 +141,9 @@ abbrev pub subtrees : After → ℕ
 subtrees (Subtrees n) = n
 subtrees other = 0
 
--- the ids of a leaf: 1 to 65,535
+-- the ids of a leaf
 abbrev pub AreIds : List (List ℕ) → Type 0
-AreIds ids = (1 ≤ length ids) × (length ids ≤ 65535) × (list_all is_id ids ≡ true)
+AreIds ids = (1 ≤ length ids) × (length ids ≤ most_leaf_ids) × (list_all is_id ids ≡ true)
 
 -- right bytes between a tag and the next node
 abbrev pub IsAfter : After → List ℕ → Type 0
@@ -160,12 +170,12 @@ Unended trees [] = 0 < trees
 Unended trees (n ∷ ns) = (0 < trees) × IsAfter (after n.0) n.1 × Unended (trees - 1 + subtrees (after n.0)) ns
 
 -- of a tree that may have so many nodes, leaves with a pattern and bytes
-module _ (most_nodes most_patterns most_bytes : ℕ) where
+module _ (node_limit pattern_limit byte_limit : ℕ) where
   -- nodes within the limits
   pub record InLimits (nodes : List Node) : Type 0 where
-    pub few_nodes : length nodes ≤ most_nodes
-    pub few_patterns : pattern_leaves nodes ≤ most_patterns
-    pub long : length (nodes_bytes nodes) ≤ most_bytes
+    pub few_nodes : length nodes ≤ node_limit
+    pub few_patterns : pattern_leaves nodes ≤ pattern_limit
+    pub long : length (nodes_bytes nodes) ≤ byte_limit
 
   -- after some nodes the next one may have this tag
   abbrev pub MayHave : List Node → ℕ → Type 0
@@ -180,9 +190,9 @@ module _ (most_nodes most_patterns most_bytes : ℕ) where
   abbrev pub NodesWrong : ℕ → Wrong
   NodesWrong trees b at = (done : List Node) × (rest : List ℕ) × (b ≡ nodes_bytes done ++ rest) × Unended trees done × InLimits done × NodeWrong done rest at
 
--- a tree: 256 nodes, 16 leaves with a pattern and 65,536 bytes
+-- a tree, within its limits
 abbrev pub TreeWrong : Wrong
-TreeWrong = NodesWrong 256 16 65536 1
+TreeWrong = NodesWrong most_nodes most_patterns most_tree_bytes 1
 
 -- a field of a message: only entries and trees are not told at their first byte
 abbrev pub FieldWrong : Field → Wrong
@@ -195,7 +205,19 @@ FieldWrong f = NoneStands (IsRight f)
 -- the first fault of a body: another version, no known kind, a wrong field of the kind, or bytes after a whole message
 abbrev pub FirstFault : List ℕ → WireFault → Type 0
 FirstFault b faults.NoMemory = ⊥
-FirstFault b faults.BadVersion = (rest : List ℕ) → b ≡ 1 ∷ rest → ⊥
-FirstFault b faults.BadKind = (rest : List ℕ) × (b ≡ 1 ∷ rest) × ((kind : ℕ) (more : List ℕ) → rest ≡ kind ∷ more → is_kind kind ≡ false)
-FirstFault b (faults.BadField at) = (kind : ℕ) × (rest : List ℕ) × (from : List ℕ) × (b ≡ 1 ∷ kind ∷ rest) × FirstWrong FieldWrong (fields kind) rest from × (at ≡ length b - length from)
+FirstFault b faults.BadVersion = (rest : List ℕ) → b ≡ version ∷ rest → ⊥
+FirstFault b faults.BadKind = (rest : List ℕ) × (b ≡ version ∷ rest) × ((kind : ℕ) (more : List ℕ) → rest ≡ kind ∷ more → is_kind kind ≡ false)
+FirstFault b (faults.BadField at) = (kind : ℕ) × (rest : List ℕ) × (from : List ℕ) × (b ≡ version ∷ kind ∷ rest) × FirstWrong FieldWrong (fields kind) rest from × (at ≡ length b - length from)
 FirstFault b (faults.Trailing at) = (message : Message) × (rest : List ℕ) × Within message × (0 < length rest) × (b ≡ body message ++ rest) × (at ≡ length (body message))
+
+-- ---- fields at a place of a body
+
+-- the fault of a body whose bytes go wrong so from a place on
+abbrev pub FaultAt : Wrong → List ℕ → ℕ → WireFault → Type 0
+FaultAt wrong b at (faults.BadField place) = (from : List ℕ) × wrong (drop at b) from × (place ≡ length b - length from)
+FaultAt wrong b at other = ⊥
+
+-- No public contract cites it. A reader that tells where bytes are wrong: each fault that it meets is told there, and is met where they are
+pub record IsTold {A : Type 0} (wrong : Wrong) (read : Reader Misread A) : Type 0 where
+  pub met : (b : List ℕ) (e : Misread) → IsBytes b → read b ≡ Err e → (at : List ℕ) × wrong b at × (e ≡ BadField (length at))
+  pub first : (b at : List ℕ) → IsBytes b → wrong b at → read b ≡ Err (BadField (length at))

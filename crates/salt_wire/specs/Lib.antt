@@ -1,3 +1,4 @@
+pub mod Codes
 pub mod Spelling
 pub mod Limits
 pub mod Decoding

@@ -1,6 +1,7 @@
 -- Which messages have a body, by cases on the message.
 use Rattle.std.specs.Prelude.{◌≡◌, ◌<◌, ◌≤◌, ◌+◌, ◌^◌, ◌&&◌, ◌||◌, ◌==◌, nat_le, ℕ, Bool, true, List, length}
 use Rattle.std.specs.List.{list_all}
+use Rattle.salt_value.specs.Limits.{most_id_bytes}
 use Rattle.salt_value.specs.Id.{is_id_byte, IsId}
 use Rattle.salt_value.specs.Word.{IsWord}
 use Rattle.salt_value.specs.Jid.{greatest_jid}
@@ -15,19 +16,51 @@ use Rattle.salt_wire.specs.declared.message.Entry.TheVariants.{Return, Fired, St
 use Rattle.salt_wire.specs.declared.message.Message.{Message}
 use Rattle.salt_wire.specs.declared.message.Message.TheVariants.{Pub, Have, Up, UpHave, Hello, End, AskPublish, AskReport, AskJobs, AskMine, Answer}
 
--- 1 to 64 bytes that ids have
-abbrev pub is_id : List ℕ → Bool
-is_id bytes = nat_le 1 (length bytes) && (nat_le (length bytes) 64 && list_all is_id_byte bytes)
+-- ---- the limits, which are this project's own
 
--- the text of a leaf: 1 to 4,096 bytes
+-- the bytes of the longest text of a job's target
+abbrev pub most_target_bytes : ℕ
+most_target_bytes = 4096
+
+-- the bytes of the longest text of a leaf
+abbrev pub most_leaf_bytes : ℕ
+most_leaf_bytes = 4096
+
+-- the ids of the longest leaf with ids
+abbrev pub most_leaf_ids : ℕ
+most_leaf_ids = 65535
+
+-- the nodes of the greatest tree
+abbrev pub most_nodes : ℕ
+most_nodes = 256
+
+-- the leaves with a pattern of the greatest tree
+abbrev pub most_patterns : ℕ
+most_patterns = 16
+
+-- the bytes of the longest tree
+abbrev pub most_tree_bytes : ℕ
+most_tree_bytes = 65536
+
+-- the bytes of the longest report in an answer
+abbrev pub most_answer_bytes : ℕ
+most_answer_bytes = 1000000
+
+-- ---- what is within them
+
+-- bytes that are an id
+abbrev pub is_id : List ℕ → Bool
+is_id bytes = nat_le 1 (length bytes) && (nat_le (length bytes) most_id_bytes && list_all is_id_byte bytes)
+
+-- the text of a leaf
 abbrev pub is_leaf_text : List ℕ → Bool
-is_leaf_text text = is_text text && (nat_le 1 (length text) && nat_le (length text) 4096)
+is_leaf_text text = is_text text && (nat_le 1 (length text) && nat_le (length text) most_leaf_bytes)
 
 -- one layer of a tree, where for each part stands whether it is right
 abbrev pub right_layer : Target-F Bool → Bool
 right_layer (Target-F.IdGlob glob) = is_leaf_text glob
 right_layer (Target-F.IdPcre pattern) = is_leaf_text pattern
-right_layer (Target-F.IdList ids) = nat_le 1 (length ids) && (nat_le (length ids) 65535 && list_all is_id ids)
+right_layer (Target-F.IdList ids) = nat_le 1 (length ids) && (nat_le (length ids) most_leaf_ids && list_all is_id ids)
 right_layer (Target-F.GrainGlob glob) = is_leaf_text glob
 right_layer (Target-F.GrainPcre pattern) = is_leaf_text pattern
 right_layer (Target-F.PillarGlob glob) = is_leaf_text glob
@@ -57,18 +90,19 @@ patterns_layer leaf = 0
 abbrev pub right : Target → Bool
 right = fold-Target Bool right_layer
 
--- how many nodes a tree has, and how many pattern leaves
+-- how many nodes a tree has
 abbrev pub nodes : Target → ℕ
 nodes = fold-Target ℕ nodes_layer
 
+-- how many of them are leaves with a pattern
 abbrev pub patterns : Target → ℕ
 patterns = fold-Target ℕ patterns_layer
 
--- a tree within the limits: 256 nodes, 16 pattern leaves, 65,536 bytes, and leaves that are right
+-- a tree within the limits, whose leaves are right
 pub record TreeFits (t : Target) : Type 0 where
-  pub few_nodes : nodes t ≤ 256
-  pub few_patterns : patterns t ≤ 16
-  pub long : length (tree t) ≤ 65536
+  pub few_nodes : nodes t ≤ most_nodes
+  pub few_patterns : patterns t ≤ most_patterns
+  pub long : length (tree t) ≤ most_tree_bytes
   pub right_leaves : right t ≡ true
 
 -- a number of 32 bits
@@ -83,7 +117,7 @@ IsText text = is_text text ≡ true
 pub record JobFits (j : Job) : Type 0 where
   pub jid : j.jid ≤ greatest_jid
   pub tgt : IsText j.tgt
-  pub tgt_long : length j.tgt ≤ 4096
+  pub tgt_long : length j.tgt ≤ most_target_bytes
   pub target : TreeFits j.target
   pub fun : IsWord j.fun
   pub args : ValueFits (v.List j.args)
@@ -111,4 +145,4 @@ Within (AskPublish kind tgt fun args) = IsText tgt × IsWord fun × ValueFits (v
 Within (AskReport jid) = jid ≤ greatest_jid
 Within AskJobs = Unit {0}
 Within (AskMine kind tgt fun) = IsText tgt × IsWord fun
-Within (Answer status report) = (is_status status ≡ true) × IsText report × (length report ≤ 1000000)
+Within (Answer status report) = (is_status status ≡ true) × IsText report × (length report ≤ most_answer_bytes)

@@ -6,6 +6,8 @@ use Rattle.salt_value.specs.declared.value.Value.TheVariants as v
 use Rattle.target_tree.specs.Kinds.{code_of}
 use Rattle.target_tree.specs.declared.target.Target.{Target, fold-Target}
 use Rattle.target_tree.specs.declared.target.Target.TheOpen.{Target-F}
+use Rattle.salt_wire.specs.Codes as code
+use Rattle.salt_wire.specs.Codes.{message_code, entry_code, node_code}
 use Rattle.salt_wire.specs.declared.message.Job.{Job}
 use Rattle.salt_wire.specs.declared.message.Entry.{Entry}
 use Rattle.salt_wire.specs.declared.message.Entry.TheVariants.{Return, Fired, Start, Mine}
@@ -26,16 +28,16 @@ word bytes = to_be_bytes w16 (length bytes) ++ bytes
 
 -- one layer of a target's tree, with the bytes of each part in the part's place
 abbrev pub tree_layer : Target-F (List ℕ) → List ℕ
-tree_layer (Target-F.IdGlob glob) = 1 ∷ text glob
-tree_layer (Target-F.IdPcre pattern) = 2 ∷ text pattern
-tree_layer (Target-F.IdList ids) = 3 ∷ (to_be_bytes w16 (length ids) ++ joined (map id ids))
-tree_layer (Target-F.GrainGlob glob) = 4 ∷ text glob
-tree_layer (Target-F.GrainPcre pattern) = 5 ∷ text pattern
-tree_layer (Target-F.PillarGlob glob) = 6 ∷ text glob
-tree_layer (Target-F.PillarPcre pattern) = 7 ∷ text pattern
-tree_layer (Target-F.Not part) = 8 ∷ part
-tree_layer (Target-F.And left right) = 9 ∷ (left ++ right)
-tree_layer (Target-F.Or left right) = 10 ∷ (left ++ right)
+tree_layer (Target-F.IdGlob glob) = node_code code.IdGlob ∷ text glob
+tree_layer (Target-F.IdPcre pattern) = node_code code.IdPcre ∷ text pattern
+tree_layer (Target-F.IdList ids) = node_code code.IdList ∷ (to_be_bytes w16 (length ids) ++ joined (map id ids))
+tree_layer (Target-F.GrainGlob glob) = node_code code.GrainGlob ∷ text glob
+tree_layer (Target-F.GrainPcre pattern) = node_code code.GrainPcre ∷ text pattern
+tree_layer (Target-F.PillarGlob glob) = node_code code.PillarGlob ∷ text glob
+tree_layer (Target-F.PillarPcre pattern) = node_code code.PillarPcre ∷ text pattern
+tree_layer (Target-F.Not part) = node_code code.Not ∷ part
+tree_layer (Target-F.And left right) = node_code code.And ∷ (left ++ right)
+tree_layer (Target-F.Or left right) = node_code code.Or ∷ (left ++ right)
 
 -- a target's tree
 abbrev pub tree : Target → List ℕ
@@ -47,25 +49,29 @@ job j = to_be_bytes w64 j.jid ++ (code_of j.kind ∷ (text j.tgt ++ (tree j.targ
 
 -- an entry, by its tag
 abbrev pub entry : Entry → List ℕ
-entry (Return seq outcome) = 1 ∷ (number seq ++ (outcome.retcode ∷ bytes outcome.value))
-entry (Fired event) = 2 ∷ (word event.tag ++ bytes event.body)
-entry (Start boot) = 3 ∷ number boot
-entry (Mine seq mine grains pillar) = 4 ∷ (number seq ++ (bytes (v.Map mine) ++ (bytes (v.Map grains) ++ bytes (v.Map pillar))))
+entry (Return seq outcome) = entry_code code.Return ∷ (number seq ++ (outcome.retcode ∷ bytes outcome.value))
+entry (Fired event) = entry_code code.Fired ∷ (word event.tag ++ bytes event.body)
+entry (Start boot) = entry_code code.Start ∷ number boot
+entry (Mine seq mine grains pillar) = entry_code code.Mine ∷ (number seq ++ (bytes (v.Map mine) ++ (bytes (v.Map grains) ++ bytes (v.Map pillar))))
 
 -- the kind and the fields of a message
 abbrev pub kind_and_fields : Message → List ℕ
-kind_and_fields (Pub seq j) = 1 ∷ (number seq ++ job j)
-kind_and_fields (Have jobs) = 2 ∷ number jobs
-kind_and_fields (Up minion n e) = 3 ∷ (id minion ++ (number n ++ entry e))
-kind_and_fields (UpHave minion n) = 4 ∷ (id minion ++ number n)
-kind_and_fields (Hello name) = 5 ∷ id name
-kind_and_fields End = 6 ∷ []
-kind_and_fields (AskPublish kind tgt fun args) = 16 ∷ (code_of kind ∷ (text tgt ++ (word fun ++ bytes (v.List args))))
-kind_and_fields (AskReport jid) = 17 ∷ to_be_bytes w64 jid
-kind_and_fields AskJobs = 18 ∷ []
-kind_and_fields (AskMine kind tgt fun) = 19 ∷ (code_of kind ∷ (text tgt ++ word fun))
-kind_and_fields (Answer status report) = 20 ∷ (status ∷ text report)
+kind_and_fields (Pub seq j) = message_code code.Pub ∷ (number seq ++ job j)
+kind_and_fields (Have jobs) = message_code code.Have ∷ number jobs
+kind_and_fields (Up minion n e) = message_code code.Up ∷ (id minion ++ (number n ++ entry e))
+kind_and_fields (UpHave minion n) = message_code code.UpHave ∷ (id minion ++ number n)
+kind_and_fields (Hello name) = message_code code.Hello ∷ id name
+kind_and_fields End = message_code code.End ∷ []
+kind_and_fields (AskPublish kind tgt fun args) = message_code code.AskPublish ∷ (code_of kind ∷ (text tgt ++ (word fun ++ bytes (v.List args))))
+kind_and_fields (AskReport jid) = message_code code.AskReport ∷ to_be_bytes w64 jid
+kind_and_fields AskJobs = message_code code.AskJobs ∷ []
+kind_and_fields (AskMine kind tgt fun) = message_code code.AskMine ∷ (code_of kind ∷ (text tgt ++ word fun))
+kind_and_fields (Answer status report) = message_code code.Answer ∷ (status ∷ text report)
+
+-- the one version
+abbrev pub version : ℕ
+version = 0x01
 
 -- the body of a message: the version, the kind and the fields
 abbrev pub body : Message → List ℕ
-body message = 1 ∷ kind_and_fields message
+body message = version ∷ kind_and_fields message

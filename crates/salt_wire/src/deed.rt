@@ -1,3 +1,4 @@
+//! What a node did, as it is recorded.
 use crate::message::{Entry, Job};
 use salt_value::{Event, Fields, MinionId};
 use sqlite_items::Items;

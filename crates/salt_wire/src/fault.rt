@@ -1,4 +1,4 @@
-// Why bytes are no message.
+//! Why bytes are no message.
 ghost use Rattle.std.specs.Prelude.{◌≡◌};
 ghost use Rattle.salt_wire.specs.declared.fault.Misread.TheVariants.{NoMemory};
 

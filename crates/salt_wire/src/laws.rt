@@ -1,4 +1,4 @@
-// Laws of the bytes, as the clauses of functions that do nothing.
+//! Laws of the bytes, as the clauses of functions that do nothing.
 ghost use Rattle.std.specs.Prelude.{◌≡◌, List, ℕ, Err};
 ghost use Rattle.salt_wire.specs.Spelling as spelling;
 ghost use Rattle.salt_wire.specs.Limits.{JobFits, EntryFits, Within};
@@ -6,7 +6,8 @@ ghost use Rattle.salt_value.specs.Id.{IsId};
 ghost use Rattle.salt_value.specs.Word.{IsWord};
 ghost use Rattle.salt_value.specs.Decoding.{IsBytes};
 ghost use Rattle.salt_wire.specs.Decoding.{id_field, word_field, job_field, entry_field, kind_and_fields, decoded};
-ghost use Rattle.salt_wire.specs.FirstFault.{FirstFault};
+ghost use Rattle.salt_wire.specs.FirstFault as wrong;
+ghost use Rattle.salt_wire.specs.FirstFault.{FirstFault, FirstWrong, FieldWrong, IsTold, job_fields};
 ghost use Rattle.salt_wire.specs.declared.fault.WireFault.{WireFault};
 ghost use Rattle.salt_wire.specs.RoundTrip.{IsReadBack};
 
@@ -27,10 +28,14 @@ pub fn messages_read_back()
     values_read_back();
 }
 
-// The fault that decoding meets is the first one of the body, and the first one is met.
+// The fault that decoding meets is the first one of the body, and the first one is met; so it is with the fields.
 pub fn first_fault_is_met()
     ensures fault { (body : List ℕ) (e : WireFault) → IsBytes body → decoded body ≡ Err e → FirstFault body e }
     ensures first { (body : List ℕ) (e : WireFault) → IsBytes body → FirstFault body e → decoded body ≡ Err e }
+    ensures ids { IsTold (FieldWrong wrong.Id) id_field }
+    ensures words { IsTold (FieldWrong wrong.Word) word_field }
+    ensures entries { IsTold (FieldWrong wrong.Entry) entry_field }
+    ensures jobs { IsTold (FirstWrong FieldWrong job_fields) job_field }
 {
     numbers_read_back::<Misread>();
     texts_read_back::<Misread>();

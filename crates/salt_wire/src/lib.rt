@@ -1,4 +1,5 @@
-//! Messages between the nodes of a fleet, as bytes.
+//! Messages between the nodes of a fleet, as bytes. `encode(&message, &mut out)?` appends the body of a message, and
+//! `decode(alloc, body)?` gives the message of a body.
 #![tactic(auto)]
 
 mod deed;
@@ -8,8 +9,6 @@ mod laws;
 mod message;
 mod parts;
 mod reading;
-#[cfg(test)]
-mod tests;
 mod tree;
 mod whole;
 mod wire;

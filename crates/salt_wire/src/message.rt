@@ -1,3 +1,4 @@
+//! Jobs, entries and messages.
 use salt_value::{Event, Fields, Items, Jid, MinionId, Outcome, Text, Word};
 use target_tree::{Kind, Target};
 

@@ -1,7 +1,8 @@
-// Jobs and entries read from bytes.
+//! Jobs and entries read from bytes.
 ghost use Rattle.std.specs.Prelude.{◌≡◌};
 ghost use Rattle.salt_wire.specs.Decoding as spec;
-ghost use Rattle.salt_wire.specs.Decoding.{Gives};
+ghost use Rattle.salt_value.specs.Readers.{Gives};
+ghost use Rattle.salt_wire.specs.declared.fault.Misread.TheVariants.{NoMemory};
 
 use crate::fault::Misread;
 use crate::fields::{
@@ -13,17 +14,20 @@ use crate::tree::tree_at;
 use salt_value::{Event, Outcome};
 use std::alloc::Global;
 
+/// The bytes of the longest text of a job's target.
+const MOST_TARGET_BYTES: usize = 4096;
+
 // A job.
 #[tactic(auto, unfolding(crate::specs::Decoding::job_field))]
 pub fn job_at(alloc: Global, bytes: &[u8]) -> Parsed<'_, Job>
-    ensures { Gives (λ x. (x.0, x.1.now)) result (spec.job_field bytes.now) }
+    ensures { Gives NoMemory (λ x. (x.0, x.1.now)) result (spec.job_field bytes.now) }
 {
     let (jid, rest) = match jid_at(bytes) {
         Ok(found) => found,
         Err(fault) => return Err(fault),
     };
     let (kind, rest) = kind_at(rest)?;
-    let (tgt, rest) = short_text_at(alloc, 4096, rest)?;
+    let (tgt, rest) = short_text_at(alloc, MOST_TARGET_BYTES, rest)?;
     let (target, rest) = tree_at(alloc, rest)?;
     let (fun, rest) = word_at(alloc, rest)?;
     let (args, rest) = items_at(alloc, rest)?;
@@ -40,7 +44,7 @@ pub fn job_at(alloc: Global, bytes: &[u8]) -> Parsed<'_, Job>
 
 #[tactic(auto, unfolding(crate::specs::Decoding::return_at))]
 fn return_at(alloc: Global, bytes: &[u8]) -> Parsed<'_, Entry>
-    ensures { Gives (λ x. (x.0, x.1.now)) result (spec.return_at bytes.now) }
+    ensures { Gives NoMemory (λ x. (x.0, x.1.now)) result (spec.return_at bytes.now) }
 {
     let (seq, rest) = number_at(bytes)?;
     let (retcode, rest) = byte_at(rest)?;
@@ -51,7 +55,7 @@ fn return_at(alloc: Global, bytes: &[u8]) -> Parsed<'_, Entry>
 
 #[tactic(auto, unfolding(crate::specs::Decoding::fired_at))]
 fn fired_at(alloc: Global, bytes: &[u8]) -> Parsed<'_, Entry>
-    ensures { Gives (λ x. (x.0, x.1.now)) result (spec.fired_at bytes.now) }
+    ensures { Gives NoMemory (λ x. (x.0, x.1.now)) result (spec.fired_at bytes.now) }
 {
     let (tag, rest) = word_at(alloc, bytes)?;
     let (body, rest) = value_at(alloc, rest)?;
@@ -61,7 +65,7 @@ fn fired_at(alloc: Global, bytes: &[u8]) -> Parsed<'_, Entry>
 
 #[tactic(auto, unfolding(crate::specs::Decoding::mine_at))]
 fn mine_at(alloc: Global, bytes: &[u8]) -> Parsed<'_, Entry>
-    ensures { Gives (λ x. (x.0, x.1.now)) result (spec.mine_at bytes.now) }
+    ensures { Gives NoMemory (λ x. (x.0, x.1.now)) result (spec.mine_at bytes.now) }
 {
     let (seq, rest) = number_at(bytes)?;
     let (mine, rest) = fields_at(alloc, rest)?;
@@ -81,16 +85,16 @@ fn mine_at(alloc: Global, bytes: &[u8]) -> Parsed<'_, Entry>
 // What stands after the tag of an entry.
 #[tactic(auto, unfolding(crate::specs::Decoding::entry_after))]
 fn entry_after(alloc: Global, tag: u8, bytes: &[u8]) -> Parsed<'_, Entry>
-    ensures { Gives (λ x. (x.0, x.1.now)) result (spec.entry_after tag bytes.now) }
+    ensures { Gives NoMemory (λ x. (x.0, x.1.now)) result (spec.entry_after tag bytes.now) }
 {
     match tag {
-        1 => return_at(alloc, bytes),
-        2 => fired_at(alloc, bytes),
-        3 => {
+        0x01 => return_at(alloc, bytes),
+        0x02 => fired_at(alloc, bytes),
+        0x03 => {
             let (boot, rest) = number_at(bytes)?;
             Ok((Entry::Start { boot }, rest))
         }
-        4 => mine_at(alloc, bytes),
+        0x04 => mine_at(alloc, bytes),
         _ => Err(Misread::BadField(bytes.len().saturating_add(1))),
     }
 }
@@ -98,7 +102,7 @@ fn entry_after(alloc: Global, tag: u8, bytes: &[u8]) -> Parsed<'_, Entry>
 // An entry.
 #[tactic(auto, unfolding(crate::specs::Decoding::entry_field))]
 pub fn entry_at(alloc: Global, bytes: &[u8]) -> Parsed<'_, Entry>
-    ensures { Gives (λ x. (x.0, x.1.now)) result (spec.entry_field bytes.now) }
+    ensures { Gives NoMemory (λ x. (x.0, x.1.now)) result (spec.entry_field bytes.now) }
 {
     let (tag, rest) = byte_at(bytes)?;
     entry_after(alloc, tag, rest)

@@ -1,8 +1,9 @@
-// Messages read from bytes.
+//! Messages read from bytes.
 ghost use Rattle.std.specs.Prelude.{◌≡◌};
 ghost use Rattle.salt_wire.specs.Limits as limits;
 ghost use Rattle.salt_wire.specs.Decoding as spec;
-ghost use Rattle.salt_wire.specs.Decoding.{Gives};
+ghost use Rattle.salt_value.specs.Readers.{Gives};
+ghost use Rattle.salt_wire.specs.declared.fault.Misread.TheVariants.{NoMemory};
 
 use crate::fault::Misread;
 use crate::fields::{
@@ -17,7 +18,7 @@ const MOST_ANSWER_BYTES: usize = 1_000_000;
 
 #[tactic(auto, unfolding(crate::specs::Decoding::pub_fields))]
 fn pub_fields(alloc: Global, bytes: &[u8]) -> Parsed<'_, Message>
-    ensures { Gives (λ x. (x.0, x.1.now)) result (spec.pub_fields bytes.now) }
+    ensures { Gives NoMemory (λ x. (x.0, x.1.now)) result (spec.pub_fields bytes.now) }
 {
     let (seq, rest) = number_at(bytes)?;
     let (job, rest) = job_at(alloc, rest)?;
@@ -26,7 +27,7 @@ fn pub_fields(alloc: Global, bytes: &[u8]) -> Parsed<'_, Message>
 
 #[tactic(auto, unfolding(crate::specs::Decoding::have_fields))]
 fn have_fields(bytes: &[u8]) -> Parsed<'_, Message>
-    ensures { Gives (λ x. (x.0, x.1.now)) result (spec.have_fields bytes.now) }
+    ensures { Gives NoMemory (λ x. (x.0, x.1.now)) result (spec.have_fields bytes.now) }
 {
     let (jobs, rest) = number_at(bytes)?;
     Ok((Message::Have { jobs }, rest))
@@ -34,7 +35,7 @@ fn have_fields(bytes: &[u8]) -> Parsed<'_, Message>
 
 #[tactic(auto, unfolding(crate::specs::Decoding::up_fields))]
 fn up_fields(alloc: Global, bytes: &[u8]) -> Parsed<'_, Message>
-    ensures { Gives (λ x. (x.0, x.1.now)) result (spec.up_fields bytes.now) }
+    ensures { Gives NoMemory (λ x. (x.0, x.1.now)) result (spec.up_fields bytes.now) }
 {
     let (minion, rest) = match id_at(bytes) {
         Ok(found) => found,
@@ -47,7 +48,7 @@ fn up_fields(alloc: Global, bytes: &[u8]) -> Parsed<'_, Message>
 
 #[tactic(auto, unfolding(crate::specs::Decoding::up_have_fields))]
 fn up_have_fields(bytes: &[u8]) -> Parsed<'_, Message>
-    ensures { Gives (λ x. (x.0, x.1.now)) result (spec.up_have_fields bytes.now) }
+    ensures { Gives NoMemory (λ x. (x.0, x.1.now)) result (spec.up_have_fields bytes.now) }
 {
     let (minion, rest) = match id_at(bytes) {
         Ok(found) => found,
@@ -59,7 +60,7 @@ fn up_have_fields(bytes: &[u8]) -> Parsed<'_, Message>
 
 #[tactic(auto, unfolding(crate::specs::Decoding::hello_fields))]
 fn hello_fields(bytes: &[u8]) -> Parsed<'_, Message>
-    ensures { Gives (λ x. (x.0, x.1.now)) result (spec.hello_fields bytes.now) }
+    ensures { Gives NoMemory (λ x. (x.0, x.1.now)) result (spec.hello_fields bytes.now) }
 {
     let (id, rest) = match id_at(bytes) {
         Ok(found) => found,
@@ -70,7 +71,7 @@ fn hello_fields(bytes: &[u8]) -> Parsed<'_, Message>
 
 #[tactic(auto, unfolding(crate::specs::Decoding::ask_publish_fields))]
 fn ask_publish_fields(alloc: Global, bytes: &[u8]) -> Parsed<'_, Message>
-    ensures { Gives (λ x. (x.0, x.1.now)) result (spec.ask_publish_fields bytes.now) }
+    ensures { Gives NoMemory (λ x. (x.0, x.1.now)) result (spec.ask_publish_fields bytes.now) }
 {
     let (kind, rest) = kind_at(bytes)?;
     let (tgt, rest) = text_at(alloc, rest)?;
@@ -87,7 +88,7 @@ fn ask_publish_fields(alloc: Global, bytes: &[u8]) -> Parsed<'_, Message>
 
 #[tactic(auto, unfolding(crate::specs::Decoding::ask_report_fields))]
 fn ask_report_fields(bytes: &[u8]) -> Parsed<'_, Message>
-    ensures { Gives (λ x. (x.0, x.1.now)) result (spec.ask_report_fields bytes.now) }
+    ensures { Gives NoMemory (λ x. (x.0, x.1.now)) result (spec.ask_report_fields bytes.now) }
 {
     let (jid, rest) = match jid_at(bytes) {
         Ok(found) => found,
@@ -98,7 +99,7 @@ fn ask_report_fields(bytes: &[u8]) -> Parsed<'_, Message>
 
 #[tactic(auto, unfolding(crate::specs::Decoding::ask_mine_fields))]
 fn ask_mine_fields(alloc: Global, bytes: &[u8]) -> Parsed<'_, Message>
-    ensures { Gives (λ x. (x.0, x.1.now)) result (spec.ask_mine_fields bytes.now) }
+    ensures { Gives NoMemory (λ x. (x.0, x.1.now)) result (spec.ask_mine_fields bytes.now) }
 {
     let (kind, rest) = kind_at(bytes)?;
     let (tgt, rest) = text_at(alloc, rest)?;
@@ -115,7 +116,7 @@ fn is_status(status: u8) -> bool
 // The status of an answer.
 #[tactic(auto, unfolding(crate::specs::Decoding::status_field))]
 fn status_at(bytes: &[u8]) -> Parsed<'_, u8>
-    ensures { Gives (λ x. (x.0, x.1.now)) result (spec.status_field bytes.now) }
+    ensures { Gives NoMemory (λ x. (x.0, x.1.now)) result (spec.status_field bytes.now) }
 {
     let (status, rest) = byte_at(bytes)?;
     if !is_status(status) {
@@ -126,7 +127,7 @@ fn status_at(bytes: &[u8]) -> Parsed<'_, u8>
 
 #[tactic(auto, unfolding(crate::specs::Decoding::answer_fields))]
 fn answer_fields(alloc: Global, bytes: &[u8]) -> Parsed<'_, Message>
-    ensures { Gives (λ x. (x.0, x.1.now)) result (spec.answer_fields bytes.now) }
+    ensures { Gives NoMemory (λ x. (x.0, x.1.now)) result (spec.answer_fields bytes.now) }
 {
     let (status, rest) = status_at(bytes)?;
     let (text, rest) = short_text_at(alloc, MOST_ANSWER_BYTES, rest)?;
@@ -136,7 +137,7 @@ fn answer_fields(alloc: Global, bytes: &[u8]) -> Parsed<'_, Message>
 // The fields of a client's message.
 #[tactic(auto, unfolding(crate::specs::Decoding::client_fields))]
 fn client_fields(alloc: Global, kind: u8, bytes: &[u8]) -> Parsed<'_, Message>
-    ensures { Gives (λ x. (x.0, x.1.now)) result (spec.client_fields kind bytes.now) }
+    ensures { Gives NoMemory (λ x. (x.0, x.1.now)) result (spec.client_fields kind bytes.now) }
 {
     match kind {
         0x10 => ask_publish_fields(alloc, bytes),
@@ -151,22 +152,22 @@ fn client_fields(alloc: Global, kind: u8, bytes: &[u8]) -> Parsed<'_, Message>
 // The fields of a message of this kind.
 #[tactic(auto, unfolding(crate::specs::Decoding::fields_of))]
 fn fields_of(alloc: Global, kind: u8, bytes: &[u8]) -> Parsed<'_, Message>
-    ensures { Gives (λ x. (x.0, x.1.now)) result (spec.fields_of kind bytes.now) }
+    ensures { Gives NoMemory (λ x. (x.0, x.1.now)) result (spec.fields_of kind bytes.now) }
 {
     match kind {
-        1 => pub_fields(alloc, bytes),
-        2 => have_fields(bytes),
-        3 => up_fields(alloc, bytes),
-        4 => up_have_fields(bytes),
-        5 => hello_fields(bytes),
-        6 => Ok((Message::End, bytes)),
+        0x01 => pub_fields(alloc, bytes),
+        0x02 => have_fields(bytes),
+        0x03 => up_fields(alloc, bytes),
+        0x04 => up_have_fields(bytes),
+        0x05 => hello_fields(bytes),
+        0x06 => Ok((Message::End, bytes)),
         _ => client_fields(alloc, kind, bytes),
     }
 }
 
 #[tactic(auto, unfolding(crate::specs::Decoding::kind_and_fields))]
 fn kind_and_fields(alloc: Global, bytes: &[u8]) -> Parsed<'_, Message>
-    ensures { Gives (λ x. (x.0, x.1.now)) result (spec.kind_and_fields bytes.now) }
+    ensures { Gives NoMemory (λ x. (x.0, x.1.now)) result (spec.kind_and_fields bytes.now) }
 {
     match bytes {
         [] => Err(Misread::BadKind),
@@ -177,12 +178,12 @@ fn kind_and_fields(alloc: Global, bytes: &[u8]) -> Parsed<'_, Message>
 // The message that these bytes are.
 #[tactic(auto, unfolding(crate::specs::Decoding::message_at))]
 pub fn message_at(alloc: Global, bytes: &[u8]) -> Result<Message, Misread>
-    ensures { Gives (λ x. x) result (spec.message_at bytes.now) }
+    ensures { Gives NoMemory (λ x. x) result (spec.message_at bytes.now) }
 {
     match bytes {
         [] => Err(Misread::BadVersion),
         [version, rest @ ..] => {
-            if *version != 1 {
+            if *version != 0x01 {
                 return Err(Misread::BadVersion);
             }
             let (message, after) = kind_and_fields(alloc, rest)?;

@@ -1,7 +1,8 @@
-// Trees of targets read from bytes.
+//! Trees of targets read from bytes.
 ghost use Rattle.std.specs.Prelude.{◌≡◌};
 ghost use Rattle.salt_wire.specs.Decoding as spec;
-ghost use Rattle.salt_wire.specs.Decoding.{Gives};
+ghost use Rattle.salt_value.specs.Readers.{Gives, several};
+ghost use Rattle.salt_wire.specs.declared.fault.Misread.TheVariants.{NoMemory};
 
 use crate::fault::Misread;
 use crate::fields::{Parsed, byte_at, id_or, text_at};
@@ -17,7 +18,7 @@ const MOST_NODES: usize = 256;
 const MOST_PATTERNS: usize = 16;
 
 /// The bytes of the longest tree.
-const MOST_BYTES: usize = 65_536;
+const MOST_TREE_BYTES: usize = 65_536;
 
 /// The bytes of the longest text of a leaf.
 const MOST_LEAF_BYTES: usize = 4096;
@@ -45,7 +46,7 @@ impl Room {
         Room {
             nodes: MOST_NODES,
             patterns: MOST_PATTERNS,
-            stop: bytes.len().saturating_sub(MOST_BYTES),
+            stop: bytes.len().saturating_sub(MOST_TREE_BYTES),
         }
     }
 
@@ -58,8 +59,8 @@ impl Room {
         }
         let nodes = self.nodes - 1;
         match tag {
-            2 | 5 | 7 if self.patterns == 0 => None,
-            2 | 5 | 7 => Some(Room {
+            0x02 | 0x05 | 0x07 if self.patterns == 0 => None,
+            0x02 | 0x05 | 0x07 => Some(Room {
                 nodes,
                 patterns: self.patterns - 1,
                 ..self
@@ -72,7 +73,7 @@ impl Room {
 // The tag of a node.
 #[tactic(auto, unfolding(crate::specs::Decoding::tag_field))]
 fn tag_at(room: Room, bytes: &[u8]) -> Node<'_, u8>
-    ensures { Gives (λ x. (x.0, x.1, x.2.now)) result (spec.tag_field room bytes.now) }
+    ensures { Gives NoMemory (λ x. (x.0, x.1, x.2.now)) result (spec.tag_field room bytes.now) }
 {
     let bad = Misread::BadField(bytes.len());
     let (tag, rest) = byte_at(bytes)?;
@@ -88,7 +89,7 @@ fn tag_at(room: Room, bytes: &[u8]) -> Node<'_, u8>
 // The text of a leaf.
 #[tactic(auto, unfolding(crate::specs::Decoding::leaf_text))]
 fn leaf_text_at(alloc: Global, stop: usize, bytes: &[u8]) -> Parsed<'_, Text>
-    ensures { Gives (λ x. (x.0, x.1.now)) result (spec.leaf_text stop bytes.now) }
+    ensures { Gives NoMemory (λ x. (x.0, x.1.now)) result (spec.leaf_text stop bytes.now) }
 {
     let bad = Misread::BadField(bytes.len());
     let (text, rest) = text_at(alloc, bytes)?;
@@ -101,7 +102,7 @@ fn leaf_text_at(alloc: Global, stop: usize, bytes: &[u8]) -> Parsed<'_, Text>
 
 // So many ids, or this fault.
 fn ids_or(alloc: Global, count: u16, bytes: &[u8], bad: Misread) -> Parsed<'_, Items<MinionId>>
-    ensures { Gives (λ x. (x.0, x.1.now)) result (spec.several (spec.id_or bad) count bytes.now) }
+    ensures { Gives NoMemory (λ x. (x.0, x.1.now)) result (several (spec.id_or bad) count bytes.now) }
 {
     let mut ids = Items::new(alloc);
     let mut rest = bytes;
@@ -119,7 +120,7 @@ fn ids_or(alloc: Global, count: u16, bytes: &[u8], bad: Misread) -> Parsed<'_, I
 // The ids of a leaf.
 #[tactic(auto, unfolding(crate::specs::Decoding::leaf_ids))]
 fn leaf_ids_at(alloc: Global, stop: usize, bytes: &[u8]) -> Parsed<'_, Items<MinionId>>
-    ensures { Gives (λ x. (x.0, x.1.now)) result (spec.leaf_ids stop bytes.now) }
+    ensures { Gives NoMemory (λ x. (x.0, x.1.now)) result (spec.leaf_ids stop bytes.now) }
 {
     let bad = Misread::BadField(bytes.len());
     let (count, rest) = u16_or(bytes, bad)?;
@@ -133,7 +134,7 @@ fn leaf_ids_at(alloc: Global, stop: usize, bytes: &[u8]) -> Parsed<'_, Items<Min
 fn is_text_tag(tag: u8) -> bool
     ensures { result ≡ spec.is_text_tag tag }
 {
-    matches!(tag, 1 | 2 | 4 | 5 | 6 | 7)
+    matches!(tag, 0x01 | 0x02 | 0x04 | 0x05 | 0x06 | 0x07)
 }
 
 // The leaf of a tag, with its text.
@@ -141,11 +142,11 @@ fn leaf(tag: u8, text: Text) -> Target
     ensures { result ≡ spec.leaf tag text }
 {
     match tag {
-        1 => Target::IdGlob(text),
-        2 => Target::IdPcre(text),
-        4 => Target::GrainGlob(text),
-        5 => Target::GrainPcre(text),
-        6 => Target::PillarGlob(text),
+        0x01 => Target::IdGlob(text),
+        0x02 => Target::IdPcre(text),
+        0x04 => Target::GrainGlob(text),
+        0x05 => Target::GrainPcre(text),
+        0x06 => Target::PillarGlob(text),
         _ => Target::PillarPcre(text),
     }
 }
@@ -153,7 +154,7 @@ fn leaf(tag: u8, text: Text) -> Target
 // A leaf with a text, after its tag.
 #[tactic(auto, unfolding(crate::specs::Decoding::text_node))]
 fn text_node(alloc: Global, tag: u8, room: Room, bytes: &[u8]) -> Node<'_, Target>
-    ensures { Gives (λ x. (x.0, x.1, x.2.now)) result (spec.text_node tag room bytes.now) }
+    ensures { Gives NoMemory (λ x. (x.0, x.1, x.2.now)) result (spec.text_node tag room bytes.now) }
 {
     if !is_text_tag(tag) {
         return Err(Misread::BadField(bytes.len().saturating_add(1)));
@@ -165,7 +166,7 @@ fn text_node(alloc: Global, tag: u8, room: Room, bytes: &[u8]) -> Node<'_, Targe
 // A leaf with ids, after its tag.
 #[tactic(auto, unfolding(crate::specs::Decoding::list_node))]
 fn list_node(alloc: Global, room: Room, bytes: &[u8]) -> Node<'_, Target>
-    ensures { Gives (λ x. (x.0, x.1, x.2.now)) result (spec.list_node room bytes.now) }
+    ensures { Gives NoMemory (λ x. (x.0, x.1, x.2.now)) result (spec.list_node room bytes.now) }
 {
     let (ids, rest) = leaf_ids_at(alloc, room.stop, bytes)?;
     Ok((Target::IdList(ids), room, rest))
@@ -175,7 +176,7 @@ fn list_node(alloc: Global, room: Room, bytes: &[u8]) -> Node<'_, Target>
 #[cycle(trees)]
 #[tactic(auto, using(crate::proofs::TreeSteps::tree_steps))]
 fn levels_at(alloc: Global, levels: usize, room: Room, bytes: &[u8]) -> Node<'_, Target>
-    ensures { Gives (λ x. (x.0, x.1, x.2.now)) result (spec.tree_at levels room bytes.now) }
+    ensures { Gives NoMemory (λ x. (x.0, x.1, x.2.now)) result (spec.tree_at levels room bytes.now) }
 {
     if levels == 0 {
         return Err(Misread::BadField(bytes.len()));
@@ -187,7 +188,7 @@ fn levels_at(alloc: Global, levels: usize, room: Room, bytes: &[u8]) -> Node<'_,
 // The same in a box.
 #[cycle(trees)]
 fn part_at(alloc: Global, levels: usize, room: Room, bytes: &[u8]) -> Node<'_, Boxed<Target>>
-    ensures { Gives (λ x. (x.0, x.1, x.2.now)) result (spec.tree_at levels room bytes.now) }
+    ensures { Gives NoMemory (λ x. (x.0, x.1, x.2.now)) result (spec.tree_at levels room bytes.now) }
 {
     let (tree, room, rest) = levels_at(alloc, levels, room, bytes)?;
     Ok((Boxed::new(alloc, tree)?, room, rest))
@@ -196,7 +197,7 @@ fn part_at(alloc: Global, levels: usize, room: Room, bytes: &[u8]) -> Node<'_, B
 #[cycle(trees)]
 #[tactic(auto, unfolding(crate::specs::Decoding::not_node))]
 fn not_node(alloc: Global, levels: usize, room: Room, bytes: &[u8]) -> Node<'_, Target>
-    ensures { Gives (λ x. (x.0, x.1, x.2.now)) result (spec.not_node (spec.tree_at levels) room bytes.now) }
+    ensures { Gives NoMemory (λ x. (x.0, x.1, x.2.now)) result (spec.not_node (spec.tree_at levels) room bytes.now) }
 {
     let (part, room, rest) = part_at(alloc, levels, room, bytes)?;
     Ok((Target::Not(part), room, rest))
@@ -205,7 +206,7 @@ fn not_node(alloc: Global, levels: usize, room: Room, bytes: &[u8]) -> Node<'_, 
 #[cycle(trees)]
 #[tactic(auto, unfolding(crate::specs::Decoding::and_node))]
 fn and_node(alloc: Global, levels: usize, room: Room, bytes: &[u8]) -> Node<'_, Target>
-    ensures { Gives (λ x. (x.0, x.1, x.2.now)) result (spec.and_node (spec.tree_at levels) room bytes.now) }
+    ensures { Gives NoMemory (λ x. (x.0, x.1, x.2.now)) result (spec.and_node (spec.tree_at levels) room bytes.now) }
 {
     let (left, room, rest) = part_at(alloc, levels, room, bytes)?;
     let (right, room, rest) = part_at(alloc, levels, room, rest)?;
@@ -215,7 +216,7 @@ fn and_node(alloc: Global, levels: usize, room: Room, bytes: &[u8]) -> Node<'_, 
 #[cycle(trees)]
 #[tactic(auto, unfolding(crate::specs::Decoding::or_node))]
 fn or_node(alloc: Global, levels: usize, room: Room, bytes: &[u8]) -> Node<'_, Target>
-    ensures { Gives (λ x. (x.0, x.1, x.2.now)) result (spec.or_node (spec.tree_at levels) room bytes.now) }
+    ensures { Gives NoMemory (λ x. (x.0, x.1, x.2.now)) result (spec.or_node (spec.tree_at levels) room bytes.now) }
 {
     let (left, room, rest) = part_at(alloc, levels, room, bytes)?;
     let (right, room, rest) = part_at(alloc, levels, room, rest)?;
@@ -226,13 +227,13 @@ fn or_node(alloc: Global, levels: usize, room: Room, bytes: &[u8]) -> Node<'_, T
 #[cycle(trees)]
 #[tactic(auto, unfolding(crate::specs::Decoding::node_after))]
 fn node_after(alloc: Global, levels: usize, tag: u8, room: Room, bytes: &[u8]) -> Node<'_, Target>
-    ensures { Gives (λ x. (x.0, x.1, x.2.now)) result (spec.node_after (spec.tree_at levels) tag room bytes.now) }
+    ensures { Gives NoMemory (λ x. (x.0, x.1, x.2.now)) result (spec.node_after (spec.tree_at levels) tag room bytes.now) }
 {
     match tag {
-        3 => list_node(alloc, room, bytes),
-        8 => not_node(alloc, levels, room, bytes),
-        9 => and_node(alloc, levels, room, bytes),
-        10 => or_node(alloc, levels, room, bytes),
+        0x03 => list_node(alloc, room, bytes),
+        0x08 => not_node(alloc, levels, room, bytes),
+        0x09 => and_node(alloc, levels, room, bytes),
+        0x0a => or_node(alloc, levels, room, bytes),
         _ => text_node(alloc, tag, room, bytes),
     }
 }
@@ -240,7 +241,7 @@ fn node_after(alloc: Global, levels: usize, tag: u8, room: Room, bytes: &[u8]) -
 // A whole tree.
 #[tactic(auto, unfolding(crate::specs::Decoding::tree_field))]
 pub fn tree_at(alloc: Global, bytes: &[u8]) -> Parsed<'_, Target>
-    ensures { Gives (λ x. (x.0, x.1.now)) result (spec.tree_field bytes.now) }
+    ensures { Gives NoMemory (λ x. (x.0, x.1.now)) result (spec.tree_field bytes.now) }
 {
     let (tree, _, rest) = levels_at(alloc, MOST_NODES, Room::whole(bytes), bytes)?;
     Ok((tree, rest))

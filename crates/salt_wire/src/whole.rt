@@ -1,6 +1,8 @@
-// Whole bodies and fields, with places counted from the front.
+//! Whole bodies and fields, with places counted from the front.
 ghost use Rattle.std.specs.Prelude.{◌≡◌, ◌≤◌, ◌-◌, Ok, Err, IfOk, IfErr, length};
-ghost use Rattle.salt_wire.specs.Decoding.{Answers, placed, field_at, decoded, id_field};
+ghost use Rattle.salt_value.specs.Readers.{Answers};
+ghost use Rattle.salt_wire.specs.declared.fault.WireFault.TheVariants as faults;
+ghost use Rattle.salt_wire.specs.Decoding.{wire_fault, field_at, decoded, id_field};
 
 use crate::fault::{Misread, WireFault};
 use crate::fields::{Parsed, id_at};
@@ -11,7 +13,7 @@ use std::alloc::Global;
 
 // A fault of a body of so many bytes by its place from the front.
 fn place(misread: Misread, all: usize) -> WireFault
-    ensures { result ≡ placed all misread }
+    ensures { result ≡ wire_fault all misread }
 {
     match misread {
         Misread::NoMemory => WireFault::NoMemory,
@@ -29,7 +31,7 @@ fn place(misread: Misread, all: usize) -> WireFault
 // The message that this body is.
 #[tactic(auto, unfolding(crate::specs::Decoding::decoded))]
 pub fn whole(alloc: Global, body: &[u8]) -> Result<Message, WireFault>
-    ensures { Answers result (decoded body.now) }
+    ensures { Answers faults.NoMemory result (decoded body.now) }
 {
     match message_at(alloc, body) {
         Ok(message) => Ok(message),
@@ -52,7 +54,7 @@ pub fn id_from(body: &[u8], at: usize) -> Result<(MinionId, usize), WireFault>
 // What was read of a body at some place, and the place after it.
 pub fn placed_after<T>(body: &[u8], read: Parsed<'_, T>) -> Result<(T, usize), WireFault>
     ensures ok { IfOk read.entry (λ x. result ≡ Ok (x.0, length body.now - length x.1.now)) }
-    ensures err { IfErr read.entry (λ e. result ≡ Err (placed (length body.now) e)) }
+    ensures err { IfErr read.entry (λ e. result ≡ Err (wire_fault (length body.now) e)) }
 {
     match read {
         Ok((found, rest)) => Ok((found, body.len().saturating_sub(rest.len()))),

@@ -1,11 +1,13 @@
-// The public calls.
+//! The public calls.
 ghost use Rattle.std.specs.Prelude.{◌≡◌, ◌≢◌, ◌≤◌, ◌+◌, ◌++◌, List, ℕ, length, drop, Ok, Err, IfOk, IfErr, OnOk, OnErr};
 ghost use Rattle.salt_value.specs.Id.{IsId};
 ghost use Rattle.salt_value.specs.Word.{IsWord};
 ghost use Rattle.salt_wire.specs.Spelling as spelling;
 ghost use Rattle.salt_wire.specs.Limits.{JobFits, EntryFits, Within};
-ghost use Rattle.salt_wire.specs.Decoding.{Answers, IsFieldFault, field_at, decoded, id_field, word_field, job_field, entry_field};
-ghost use Rattle.salt_wire.specs.FirstFault.{FirstFault};
+ghost use Rattle.salt_value.specs.Readers.{Answers};
+ghost use Rattle.salt_wire.specs.Decoding.{field_at, decoded, id_field, word_field, job_field, entry_field};
+ghost use Rattle.salt_wire.specs.FirstFault as wrong;
+ghost use Rattle.salt_wire.specs.FirstFault.{FirstFault, FirstWrong, FieldWrong, FaultAt, job_fields};
 ghost use Rattle.salt_wire.specs.RoundTrip.{Spans};
 ghost use Rattle.salt_wire.specs.declared.fault.WireFault.{WireFault};
 ghost use Rattle.salt_wire.specs.declared.fault.WireFault.TheVariants as faults;
@@ -26,15 +28,15 @@ use std::alloc::{AllocError, Global};
 /// The message that this body is, or its first fault from the left.
 pub fn decode(alloc: Global, body: &[u8]) -> Result<Message, WireFault>
     // What is decoded is within its limits and has this body.
-    ensures found { IfOk result (λ message. Within message × (body.now ≡ spelling.body message)) }
+    ensures ok { IfOk result (λ message. Within message × (body.now ≡ spelling.body message)) }
     // A message within its limits that has this body is decoded, unless memory runs out.
-    ensures only { (message : Message) → Within message → body.now ≡ spelling.body message → Answers result (Ok message) }
+    ensures complete { (message : Message) → Within message → body.now ≡ spelling.body message → Answers faults.NoMemory result (Ok message) }
     // Any fault but want of memory is the first of the body.
     ensures fault { IfErr result (λ e. e ≢ faults.NoMemory → FirstFault body.now e) }
     // The first fault of the body is answered, unless memory runs out.
-    ensures first { (e : WireFault) → FirstFault body.now e → Answers result (Err e) }
+    ensures first { (e : WireFault) → FirstFault body.now e → Answers faults.NoMemory result (Err e) }
     // All of this, with the faults and their places, as a function.
-    ensures exact { Answers result (decoded body.now) }
+    ensures exact { Answers faults.NoMemory result (decoded body.now) }
 {
     messages_read_back();
     first_fault_is_met();
@@ -98,15 +100,18 @@ pub fn write_entry(entry: &Entry, out: &mut Vec<u8>) -> Result<(), AllocError>
 pub fn read_id(body: &[u8], at: usize) -> Result<(MinionId, usize), WireFault>
     requires { at ≤ length body.now }
     // What is read is an id and stands between the two places.
-    ensures found { IfOk result (λ x. IsId x.0 × Spans spelling.id body.now at x) }
+    ensures ok { IfOk result (λ x. IsId x.0 × Spans spelling.id body.now at x) }
     // An id that stands there is read.
-    ensures only { (x : List ℕ) (rest : List ℕ) → IsId x → drop at body.now ≡ spelling.id x ++ rest → result ≡ Ok (x, at + length (spelling.id x)) }
-    // Of the named faults it has BadField alone.
-    ensures field { IfErr result IsFieldFault }
+    ensures complete { (x : List ℕ) (rest : List ℕ) → IsId x → drop at body.now ≡ spelling.id x ++ rest → result ≡ Ok (x, at + length (spelling.id x)) }
+    // Any fault is that of the field there.
+    ensures fault { IfErr result (FaultAt (FieldWrong wrong.Id) body.now at) }
+    // The fault of the field there is answered.
+    ensures first { (e : WireFault) → FaultAt (FieldWrong wrong.Id) body.now at e → result ≡ Err e }
     // All of this, with the faults and their places, as a function.
     ensures exact { result ≡ field_at id_field body.now at }
 {
     messages_read_back();
+    first_fault_is_met();
     id_from(body, at)
 }
 
@@ -114,15 +119,18 @@ pub fn read_id(body: &[u8], at: usize) -> Result<(MinionId, usize), WireFault>
 pub fn read_word(alloc: Global, body: &[u8], at: usize) -> Result<(Word, usize), WireFault>
     requires { at ≤ length body.now }
     // What is read is within its limits and stands between the two places.
-    ensures found { IfOk result (λ x. IsWord x.0 × Spans spelling.word body.now at x) }
+    ensures ok { IfOk result (λ x. IsWord x.0 × Spans spelling.word body.now at x) }
     // One within its limits that stands there is read, unless memory runs out.
-    ensures only { (x : List ℕ) (rest : List ℕ) → IsWord x → drop at body.now ≡ spelling.word x ++ rest → Answers result (Ok (x, at + length (spelling.word x))) }
-    // Of the named faults it has BadField alone.
-    ensures field { IfErr result IsFieldFault }
+    ensures complete { (x : List ℕ) (rest : List ℕ) → IsWord x → drop at body.now ≡ spelling.word x ++ rest → Answers faults.NoMemory result (Ok (x, at + length (spelling.word x))) }
+    // Any fault but want of memory is the first one there.
+    ensures fault { IfErr result (λ e. e ≢ faults.NoMemory → FaultAt (FieldWrong wrong.Word) body.now at e) }
+    // The first fault there is answered, unless memory runs out.
+    ensures first { (e : WireFault) → FaultAt (FieldWrong wrong.Word) body.now at e → Answers faults.NoMemory result (Err e) }
     // All of this, with the faults and their places, as a function.
-    ensures exact { Answers result (field_at word_field body.now at) }
+    ensures exact { Answers faults.NoMemory result (field_at word_field body.now at) }
 {
     messages_read_back();
+    first_fault_is_met();
     placed_after(body, word_at(alloc, &body[at..]))
 }
 
@@ -131,15 +139,18 @@ pub fn read_word(alloc: Global, body: &[u8], at: usize) -> Result<(Word, usize),
 pub fn read_job(alloc: Global, body: &[u8], at: usize) -> Result<(Job, usize), WireFault>
     requires { at ≤ length body.now }
     // What is read is within its limits and stands between the two places.
-    ensures found { IfOk result (λ x. JobFits x.0 × Spans spelling.job body.now at x) }
+    ensures ok { IfOk result (λ x. JobFits x.0 × Spans spelling.job body.now at x) }
     // One within its limits that stands there is read, unless memory runs out.
-    ensures only { (x : Job) (rest : List ℕ) → JobFits x → drop at body.now ≡ spelling.job x ++ rest → Answers result (Ok (x, at + length (spelling.job x))) }
-    // Of the named faults it has BadField alone.
-    ensures field { IfErr result IsFieldFault }
+    ensures complete { (x : Job) (rest : List ℕ) → JobFits x → drop at body.now ≡ spelling.job x ++ rest → Answers faults.NoMemory result (Ok (x, at + length (spelling.job x))) }
+    // Any fault but want of memory is the first one there.
+    ensures fault { IfErr result (λ e. e ≢ faults.NoMemory → FaultAt (FirstWrong FieldWrong job_fields) body.now at e) }
+    // The first fault there is answered, unless memory runs out.
+    ensures first { (e : WireFault) → FaultAt (FirstWrong FieldWrong job_fields) body.now at e → Answers faults.NoMemory result (Err e) }
     // All of this, with the faults and their places, as a function.
-    ensures exact { Answers result (field_at job_field body.now at) }
+    ensures exact { Answers faults.NoMemory result (field_at job_field body.now at) }
 {
     messages_read_back();
+    first_fault_is_met();
     placed_after(body, job_at(alloc, &body[at..]))
 }
 
@@ -148,14 +159,17 @@ pub fn read_job(alloc: Global, body: &[u8], at: usize) -> Result<(Job, usize), W
 pub fn read_entry(alloc: Global, body: &[u8], at: usize) -> Result<(Entry, usize), WireFault>
     requires { at ≤ length body.now }
     // What is read is within its limits and stands between the two places.
-    ensures found { IfOk result (λ x. EntryFits x.0 × Spans spelling.entry body.now at x) }
+    ensures ok { IfOk result (λ x. EntryFits x.0 × Spans spelling.entry body.now at x) }
     // One within its limits that stands there is read, unless memory runs out.
-    ensures only { (x : Entry) (rest : List ℕ) → EntryFits x → drop at body.now ≡ spelling.entry x ++ rest → Answers result (Ok (x, at + length (spelling.entry x))) }
-    // Of the named faults it has BadField alone.
-    ensures field { IfErr result IsFieldFault }
+    ensures complete { (x : Entry) (rest : List ℕ) → EntryFits x → drop at body.now ≡ spelling.entry x ++ rest → Answers faults.NoMemory result (Ok (x, at + length (spelling.entry x))) }
+    // Any fault but want of memory is the first one there.
+    ensures fault { IfErr result (λ e. e ≢ faults.NoMemory → FaultAt (FieldWrong wrong.Entry) body.now at e) }
+    // The first fault there is answered, unless memory runs out.
+    ensures first { (e : WireFault) → FaultAt (FieldWrong wrong.Entry) body.now at e → Answers faults.NoMemory result (Err e) }
     // All of this, with the faults and their places, as a function.
-    ensures exact { Answers result (field_at entry_field body.now at) }
+    ensures exact { Answers faults.NoMemory result (field_at entry_field body.now at) }
 {
     messages_read_back();
+    first_fault_is_met();
     placed_after(body, entry_at(alloc, &body[at..]))
 }

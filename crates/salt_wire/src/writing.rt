@@ -1,4 +1,4 @@
-// Messages written as bytes. After an error some of the bytes may stand at the end.
+//! Messages written as bytes. After an error some of the bytes may stand at the end.
 ghost use Rattle.std.specs.Prelude.{◌≡◌, ◌<◌, ◌≤◌, ◌^◌, ◌++◌, ◌∷◌, true, List, ℕ, length, map, take, OnOk, OnErr};
 ghost use Rattle.std.specs.Int.{w16, w64, to_be_bytes};
 ghost use Rattle.salt_value.specs.Spelling.{bytes, text as spelled_text, joined};
@@ -41,7 +41,7 @@ fn put_items(out: &mut Vec<u8>, items: &[Value]) -> Result<(), AllocError>
     ensures ok { OnOk result (out.new.items ≡ out.old.items ++ bytes (v.List items.now)) }
     ensures err { OnErr result ((more : List ℕ) × (out.new.items ≡ out.old.items ++ more)) }
 {
-    out.push(5)?;
+    out.push(0x05)?;
     put_u32(out, items.len() as u32)?;
     for item in items {
         item.write(out)?;
@@ -66,7 +66,7 @@ fn put_fields(out: &mut Vec<u8>, pairs: &[(Text, Value)]) -> Result<(), AllocErr
     ensures ok { OnOk result (out.new.items ≡ out.old.items ++ bytes (v.Map pairs.now)) }
     ensures err { OnErr result ((more : List ℕ) × (out.new.items ≡ out.old.items ++ more)) }
 {
-    out.push(6)?;
+    out.push(0x06)?;
     put_u32(out, pairs.len() as u32)?;
     for (key, value) in pairs {
         put_pair(out, key, value)?;
@@ -104,27 +104,27 @@ fn put_tree(out: &mut Vec<u8>, tree: &Target) -> Result<(), AllocError>
     ensures err { OnErr result ((more : List ℕ) × (out.new.items ≡ out.old.items ++ more)) }
 {
     match tree {
-        Target::IdGlob(glob) => put_leaf(out, 1, glob)?,
-        Target::IdPcre(pattern) => put_leaf(out, 2, pattern)?,
+        Target::IdGlob(glob) => put_leaf(out, 0x01, glob)?,
+        Target::IdPcre(pattern) => put_leaf(out, 0x02, pattern)?,
         Target::IdList(ids) => {
-            out.push(3)?;
+            out.push(0x03)?;
             put_ids(out, ids.as_slice())?;
         }
-        Target::GrainGlob(glob) => put_leaf(out, 4, glob)?,
-        Target::GrainPcre(pattern) => put_leaf(out, 5, pattern)?,
-        Target::PillarGlob(glob) => put_leaf(out, 6, glob)?,
-        Target::PillarPcre(pattern) => put_leaf(out, 7, pattern)?,
+        Target::GrainGlob(glob) => put_leaf(out, 0x04, glob)?,
+        Target::GrainPcre(pattern) => put_leaf(out, 0x05, pattern)?,
+        Target::PillarGlob(glob) => put_leaf(out, 0x06, glob)?,
+        Target::PillarPcre(pattern) => put_leaf(out, 0x07, pattern)?,
         Target::Not(part) => {
-            out.push(8)?;
+            out.push(0x08)?;
             put_tree(out, part.get())?;
         }
         Target::And(left, right) => {
-            out.push(9)?;
+            out.push(0x09)?;
             put_tree(out, left.get())?;
             put_tree(out, right.get())?;
         }
         Target::Or(left, right) => {
-            out.push(10)?;
+            out.push(0x0a)?;
             put_tree(out, left.get())?;
             put_tree(out, right.get())?;
         }
@@ -165,18 +165,18 @@ pub fn put_entry(out: &mut Vec<u8>, entry: &Entry) -> Result<(), AllocError>
 {
     match entry {
         Entry::Return { seq, outcome } => {
-            out.push(1)?;
+            out.push(0x01)?;
             put_u32(out, *seq)?;
             out.push(outcome.retcode)?;
             outcome.value.write(out)?;
         }
         Entry::Fired { event } => {
-            out.push(2)?;
+            out.push(0x02)?;
             put_word(out, &event.tag)?;
             event.body.write(out)?;
         }
         Entry::Start { boot } => {
-            out.push(3)?;
+            out.push(0x03)?;
             put_u32(out, *boot)?;
         }
         Entry::Mine {
@@ -185,7 +185,7 @@ pub fn put_entry(out: &mut Vec<u8>, entry: &Entry) -> Result<(), AllocError>
             grains,
             pillar,
         } => {
-            out.push(4)?;
+            out.push(0x04)?;
             put_u32(out, *seq)?;
             put_fields(out, mine.as_slice())?;
             put_fields(out, grains.as_slice())?;
@@ -211,7 +211,7 @@ fn put_pub(out: &mut Vec<u8>, seq: u32, job: &Job) -> Result<(), AllocError>
     ensures ok { OnOk result (out.new.items ≡ out.old.items ++ spelling.kind_and_fields (m.Pub seq job.now)) }
     ensures err { OnErr result ((more : List ℕ) × (out.new.items ≡ out.old.items ++ more)) }
 {
-    out.push(1)?;
+    out.push(0x01)?;
     put_u32(out, seq)?;
     put_job(out, job)?;
     Ok(())
@@ -222,7 +222,7 @@ fn put_up(out: &mut Vec<u8>, minion: &MinionId, n: u32, entry: &Entry) -> Result
     ensures ok { OnOk result (out.new.items ≡ out.old.items ++ spelling.kind_and_fields (m.Up minion.now n entry.now)) }
     ensures err { OnErr result ((more : List ℕ) × (out.new.items ≡ out.old.items ++ more)) }
 {
-    out.push(3)?;
+    out.push(0x03)?;
     put_id(out, minion)?;
     put_u32(out, n)?;
     put_entry(out, entry)
@@ -237,20 +237,20 @@ fn put_fields_of(out: &mut Vec<u8>, message: &Message) -> Result<(), AllocError>
     match message {
         Message::Pub { seq, job } => put_pub(out, *seq, job)?,
         Message::Have { jobs } => {
-            out.push(2)?;
+            out.push(0x02)?;
             put_u32(out, *jobs)?;
         }
         Message::Up { minion, n, entry } => put_up(out, minion, *n, entry)?,
         Message::UpHave { minion, n } => {
-            out.push(4)?;
+            out.push(0x04)?;
             put_id(out, minion)?;
             put_u32(out, *n)?;
         }
         Message::Hello { id } => {
-            out.push(5)?;
+            out.push(0x05)?;
             put_id(out, id)?;
         }
-        Message::End => out.push(6)?,
+        Message::End => out.push(0x06)?,
         Message::AskPublish {
             kind,
             tgt,
@@ -285,7 +285,7 @@ pub fn put_message(out: &mut Vec<u8>, message: &Message) -> Result<(), AllocErro
     ensures ok { OnOk result (out.new.items ≡ out.old.items ++ spelling.body message.now) }
     ensures err { OnErr result ((more : List ℕ) × (out.new.items ≡ out.old.items ++ more)) }
 {
-    out.push(1)?;
+    out.push(0x01)?;
     put_fields_of(out, message)
 }
 

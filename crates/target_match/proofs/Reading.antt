@@ -7,6 +7,7 @@ use Rattle.regex_syntax.specs.Verdict.{Reads, Refuses, default_config}
 use Rattle.regex_syntax.specs.Captures.{SameCaptures}
 use Rattle.regex_syntax.specs.declared.error.ErrorKind.{ErrorKind}
 use Rattle.regex_syntax.specs.declared.error.ErrorKind.TheVariants.{OutOfMemory, NestLimitExceeded}
+use Rattle.regex.specs.Failures.{IsPattern}
 use Rattle.regex.specs.Patterns.{Re, Match, find_str, span}
 use Rattle.regex.specs.Strings.{regex_pattern, regex_source, regex_names}
 use Rattle.regex.specs.declared.string.regex.Regex.{Regex}
@@ -42,6 +43,10 @@ not_within (Some x) most kind r ne p = elim r [
 pub refused : (p : List ℕ) (kind : ErrorKind) → Refuses default_config p kind → kind ≢ OutOfMemory → IsReadable p → ⊥
 unfolding Refuses
 refused p kind r ne = not_within _ _ kind r ne
+
+pub too_big : (p : List ℕ) → IsPattern default_config p → IsReadable p
+unfolding Reads
+too_big p h = within _ _ _ _ h.2
 
 begins_alike : (o q : Option Match) → option_map span o ≡ option_map span q → begins o ≡ begins q
 begins_alike None None e = refl

@@ -1,12 +1,12 @@
 -- Which minions a target holds for, by cases on its tree.
-use Rattle.std.specs.Prelude.{◌<◌, ℕ, Bool, true, false, not, ◌&&◌, ◌||◌, List, [], ◌∷◌, ◌++◌, length, Option, None, Some, slice_index_or, bytes_eq, if◌then◌else◌}
+use Rattle.std.specs.Prelude.{◌≡◌, ◌<◌, min, ℕ, Bool, true, false, not, ◌&&◌, ◌||◌, List, [], ◌∷◌, ◌++◌, length, Option, None, Some, slice_index_or, bytes_eq, if◌then◌else◌}
 use Rattle.std.specs.List.{list_any}
 use Rattle.salt_glob.specs.Globs.{glob}
 use Rattle.salt_value.specs.declared.value.Value.{Value}
 use Rattle.salt_value.specs.declared.value.Value.TheVariants.{Map}
 use Rattle.target_tree.specs.declared.target.Target.{Target, fold-Target}
 use Rattle.target_tree.specs.declared.target.Target.TheOpen.{Target-F}
-use Rattle.target_match.specs.Patterns.{IsRead, IsReadable, starts}
+use Rattle.target_match.specs.Patterns.{IsReadable, starts}
 use Rattle.target_match.specs.Paths.{parts, path_of, pattern_of}
 use Rattle.target_match.specs.Data.{meets, reached}
 
@@ -75,20 +75,36 @@ patterns_layer (Target-F.Or left right) = left ++ right
 abbrev pub patterns : Target → List (Option (List ℕ))
 patterns = fold-Target (List (Option (List ℕ))) patterns_layer
 
-abbrev pub IsReadLeaf : Option (List ℕ) → Type 0
-IsReadLeaf None = Unit {0}
-IsReadLeaf (Some pattern) = IsRead pattern
-
+-- the leaf has no pattern, or a readable one
 abbrev pub IsReadableLeaf : Option (List ℕ) → Type 0
 IsReadableLeaf None = Unit {0}
 IsReadableLeaf (Some pattern) = IsReadable pattern
+
+-- the leaf has a readable pattern
+abbrev pub IsReadablePattern : Option (List ℕ) → Type 0
+IsReadablePattern None = ⊥
+IsReadablePattern (Some pattern) = IsReadable pattern
 
 -- each pattern is readable
 abbrev pub AreReadable : List (Option (List ℕ)) → Type 0
 AreReadable leaves = (k : ℕ) → k < length leaves → IsReadableLeaf (slice_index_or leaves k None)
 
--- the pattern of this leaf is not readable, and the grammar reads every one before it
+-- the pattern of this leaf is not readable, and each one before it is
 pub record IsBadAt (leaves : List (Option (List ℕ))) (leaf : ℕ) : Type 0 where
   pub within : leaf < length leaves
   pub bad : IsReadableLeaf (slice_index_or leaves leaf None) → ⊥
-  pub before : (k : ℕ) → k < leaf → IsReadLeaf (slice_index_or leaves k None)
+  pub before : (k : ℕ) → k < leaf → IsReadableLeaf (slice_index_or leaves k None)
+
+-- this leaf has a pattern, which is readable, as each one before it is
+pub record IsBigAt (leaves : List (Option (List ℕ))) (leaf : ℕ) : Type 0 where
+  pub within : leaf < length leaves
+  pub big : IsReadablePattern (slice_index_or leaves leaf None)
+  pub before : (k : ℕ) → k < leaf → IsReadableLeaf (slice_index_or leaves k None)
+
+-- the count of leaves, which stands still at 4,294,967,295
+abbrev pub leaf_count : ℕ → ℕ
+leaf_count n = min n 4294967295
+
+-- the number that a leaf is told by: its count
+abbrev pub IsToldAs : ℕ → (ℕ → Type 0) → Type 0
+IsToldAs told is = (leaf : ℕ) × (told ≡ leaf_count leaf) × is leaf

@@ -6,10 +6,6 @@ use Rattle.regex.specs.declared.string.regex.Regex.{Regex}
 use Rattle.regex_syntax.specs.Brackets.{Nested}
 use Rattle.regex_syntax.specs.Grammar.{Names, read}
 
--- the grammar reads the pattern
-abbrev pub IsRead : List ℕ → Type 0
-IsRead pattern = IsSomeAnd (read default_config (chars pattern)) (λ _. Unit {0})
-
 -- the grammar reads it, and its nesting is within the limit
 abbrev pub IsReadable : List ℕ → Type 0
 IsReadable pattern = IsSomeAnd (read default_config (chars pattern)) (λ (re, _). re.depth ≤ default_config.nest_limit)

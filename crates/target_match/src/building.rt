@@ -1,6 +1,6 @@
 //! From a target to its ready tree.
 ghost use Rattle.std.specs.Prelude.{◌≡◌, ◌+◌, ◌++◌, IfOk, IfErr};
-ghost use Rattle.target_match.specs.Holds.{patterns};
+ghost use Rattle.target_match.specs.Holds.{patterns, leaf_count};
 ghost use Rattle.target_match.specs.Building.{IsMadeOf, AreMadeOf, IsFaultOf};
 
 use crate::BuildFault;
@@ -8,56 +8,52 @@ use crate::leaf::{DataPattern, IdPattern};
 use crate::ready::Ready;
 use salt_value::Text;
 use sqlite_items::{Boxed, Items};
-use std::alloc::{AllocError, Global};
+use std::alloc::Global;
 use target_tree::Target;
 
-/// Counts one more leaf, and answers how many came before it. A leaf past number 65,534 is want of memory.
-fn count(leaves: &mut u16) -> Result<u16, AllocError>
-    ensures { IfOk result (λ leaf. (leaf ≡ leaves.old) × (leaves.new ≡ leaves.old + 1)) }
+/// Counts one more leaf, and answers how many came before it. The count stands still at its type's end.
+fn count(leaves: &mut u32) -> u32
+    ensures value { result ≡ leaf_count leaves.old }
+    ensures count { leaves.new ≡ leaf_count (leaves.old + 1) }
 {
     let leaf = *leaves;
-    match leaf.checked_add(1) {
-        Some(next) => {
-            *leaves = next;
-            Ok(leaf)
-        }
-        None => Err(AllocError),
-    }
+    *leaves = leaf.saturating_add(1);
+    leaf
 }
 
 /// Makes a tree ready, whose first leaf is the one that is next in the count.
 #[cycle(ready)]
-pub fn ready(alloc: Global, tree: &Target, leaves: &mut u16) -> Result<Ready, BuildFault>
+pub fn ready(alloc: Global, tree: &Target, leaves: &mut u32) -> Result<Ready, BuildFault>
     ensures ok { IfOk result (IsMadeOf tree.now leaves.old leaves.new) }
     ensures bad { IfErr result (IsFaultOf (patterns tree.now) leaves.old) }
 {
     match tree {
         Target::IdPcre(text) => {
-            let leaf = count(leaves)?;
+            let leaf = count(leaves);
             Ok(Ready::IdPcre(IdPattern::new(alloc, text.as_str(), leaf)?))
         }
         Target::GrainPcre(text) => {
-            let leaf = count(leaves)?;
+            let leaf = count(leaves);
             Ok(Ready::GrainPcre(DataPattern::new(alloc, text, leaf)?))
         }
         Target::PillarPcre(text) => {
-            let leaf = count(leaves)?;
+            let leaf = count(leaves);
             Ok(Ready::PillarPcre(DataPattern::new(alloc, text, leaf)?))
         }
         Target::IdGlob(text) => {
-            count(leaves)?;
+            count(leaves);
             Ok(Ready::IdGlob(text.copy()?))
         }
         Target::GrainGlob(text) => {
-            count(leaves)?;
+            count(leaves);
             Ok(Ready::GrainGlob(text.copy()?))
         }
         Target::PillarGlob(text) => {
-            count(leaves)?;
+            count(leaves);
             Ok(Ready::PillarGlob(text.copy()?))
         }
         Target::IdList(ids) => {
-            count(leaves)?;
+            count(leaves);
             Ok(Ready::IdList(Items::from_slice(alloc, ids.as_slice())?))
         }
         Target::Not(one) => {
@@ -81,7 +77,7 @@ fn both(
     alloc: Global,
     left: &Target,
     right: &Target,
-    leaves: &mut u16,
+    leaves: &mut u32,
 ) -> Result<(Boxed<Ready>, Boxed<Ready>), BuildFault>
     ensures ok { IfOk result (λ r. AreMadeOf left.now right.now leaves.old leaves.new r.0 r.1) }
     ensures bad { IfErr result (IsFaultOf (patterns left.now ++ patterns right.now) leaves.old) }

@@ -36,7 +36,7 @@ impl Model for IdPattern {
 }
 
 impl IdPattern {
-    pub fn new(alloc: Global, text: &str, leaf: u16) -> Result<IdPattern, BuildFault>
+    pub fn new(alloc: Global, text: &str, leaf: u32) -> Result<IdPattern, BuildFault>
         ensures value { IfOk result (λ p. p ≡ text.now) }
         ensures readable { IfOk result (λ _. IsReadable text.now) }
         ensures unreadable { IfErr result (IsRefusalOf text.now leaf) }
@@ -83,7 +83,7 @@ impl Model for DataPattern {
 }
 
 impl DataPattern {
-    pub fn new(alloc: Global, text: &Text, leaf: u16) -> Result<DataPattern, BuildFault>
+    pub fn new(alloc: Global, text: &Text, leaf: u32) -> Result<DataPattern, BuildFault>
         ensures value { IfOk result (λ p. p ≡ text.now) }
         ensures readable { IfOk result (λ _. IsReadable (pattern_of (parts text.now))) }
         ensures unreadable { IfErr result (IsRefusalOf (pattern_of (parts text.now)) leaf) }

@@ -1,4 +1,4 @@
-//! Which minions a target holds for.
+//! Which minions a target holds for: `Matcher::build(alloc, &target)?` answers `holds(&id, &grains, &pillar)?` for each.
 #![tactic(auto)]
 
 mod building;
@@ -13,8 +13,6 @@ mod pattern;
 mod reach;
 mod ready;
 mod search;
-#[cfg(test)]
-mod tests;
 
 pub use fault::BuildFault;
 pub use matcher::Matcher;

@@ -1,6 +1,6 @@
 //! A target that is ready for matching.
 ghost use Rattle.std.specs.Prelude.{◌≡◌, ℕ, [], IfOk, IsOk, IsErrOf, IsTrue};
-ghost use Rattle.target_match.specs.Holds.{Data, holds, is_by_id, decided, patterns, AreReadable, IsBadAt};
+ghost use Rattle.target_match.specs.Holds.{Data, holds, is_by_id, decided, patterns, AreReadable, IsBadAt, IsBigAt, IsToldAs};
 
 use crate::BuildFault;
 use crate::building::ready;
@@ -34,12 +34,12 @@ impl Model for Matcher {
 }
 
 impl Matcher {
-    /// Makes a copy of the target ready. `BadPattern` names the first leaf whose pattern isn't readable; a pattern that grows
-    /// past the limit of its tables is want of memory, and so is a target of more than 65,535 leaves.
+    /// Makes a copy of the target ready. `BadPattern` and `TooBig` name the first leaf whose pattern isn't compiled.
     pub fn build(alloc: Global, target: &Target) -> Result<Matcher, BuildFault>
         ensures ok { IfOk result (λ m. m ≡ target.now) }
         ensures readable { IfOk result (λ _. AreReadable (patterns target.now)) }
-        ensures bad { (leaf : ℕ) → IsErrOf result (BuildFault.BadPattern leaf) → IsBadAt (patterns target.now) leaf }
+        ensures bad_pattern { (leaf : ℕ) → IsErrOf result (BuildFault.BadPattern leaf) → IsToldAs leaf (IsBadAt (patterns target.now)) }
+        ensures too_big { (leaf : ℕ) → IsErrOf result (BuildFault.TooBig leaf) → IsToldAs leaf (IsBigAt (patterns target.now)) }
     {
         let mut leaves = 0;
         let ready = ready(alloc, target, &mut leaves)?;

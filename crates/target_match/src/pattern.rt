@@ -8,8 +8,8 @@ use crate::BuildFault;
 use regex::{Error, Matcher, Regex};
 use std::alloc::Global;
 
-/// Compiles the pattern of a leaf. A compiled size over the limit is want of memory.
-pub fn compile(alloc: Global, pattern: &str, leaf: u16) -> Result<Regex, BuildFault>
+/// Compiles the pattern of a leaf.
+pub fn compile(alloc: Global, pattern: &str, leaf: u32) -> Result<Regex, BuildFault>
     ensures source { IfOk result (λ r. regex_source r ≡ pattern.now) }
     ensures compiled { IfOk result IsCompiled }
     ensures readable { IfOk result (λ _. IsReadable pattern.now) }
@@ -18,7 +18,9 @@ pub fn compile(alloc: Global, pattern: &str, leaf: u16) -> Result<Regex, BuildFa
     match Regex::new(alloc, pattern) {
         Ok(regex) => Ok(regex),
         Err(Error::Syntax(_)) => Err(BuildFault::BadPattern { leaf }),
-        Err(_) => Err(BuildFault::NoMemory),
+        Err(Error::CompiledTooBig) => Err(BuildFault::TooBig { leaf }),
+        Err(Error::OutOfMemory) => Err(BuildFault::NoMemory),
+        Err(Error::Internal) => unreachable!(),
     }
 }
 

@@ -10,7 +10,7 @@ use Rattle.target_tree.specs.declared.fault.TargetFault.TheVariants.{TooLong, To
 use Rattle.target_tree.specs.declared.token.Token.{Token}
 use Rattle.target_tree.specs.declared.token.Token.TheVariants.{AndWord, OrWord, NotWord, OpenWord, CloseWord, Leaf, Pattern, Nodegroup}
 use Rattle.target_tree.specs.Words.{tokens_of}
-use Rattle.target_tree.specs.Nodegroups.{text_of, is_among}
+use Rattle.target_tree.specs.Nodegroups.{text_named, is_among}
 use Rattle.target_tree.specs.Targets.{IsLimit}
 use Rattle.target_tree.specs.Grammar.{Level, operand, conjunction, compound, Stands, one_leaf, one_pattern, one_group, negated, in_parens, one_operand, joined_by_and, one_conjunction, joined_by_or}
 use Rattle.target_tree.specs.Reading.{◌>>=◌}
@@ -158,7 +158,7 @@ module _ (group : List ℕ → Machine → Step) where
       (then_reads _ (done_at last left_or around []) machine_end _ (run around [] at patterns)
       (λ now count. reads now count (ap (λ (u : Target). Ok (record { tree = u; at = now; patterns = count })) whole))))
 
-reads_group : (groups : List Group) (text : List ℕ) (t : Target) (name : List ℕ) (names : List (List ℕ)) → text_of groups name ≡ Some text → is_among names name ≡ false → 0 < length (tokens_of text)
+reads_group : (groups : List Group) (text : List ℕ) (t : Target) (name : List ℕ) (names : List (List ℕ)) → text_named groups name ≡ Some text → is_among names name ≡ false → 0 < length (tokens_of text)
     → ((depth : ℕ) → ReadsAs compound (machine_group depth groups (name ∷ names)) (tokens_of text) t)
     → (depth : ℕ) → ReadsAs operand (machine_group depth groups names) (Nodegroup name ∷ []) t
 unfolding machine_group

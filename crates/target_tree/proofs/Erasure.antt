@@ -8,7 +8,7 @@ use Rattle.target_tree.specs.declared.fault.TargetFault.TheVariants.{Empty, TooL
 use Rattle.target_tree.specs.declared.token.Token.{Token}
 use Rattle.target_tree.specs.declared.token.Token.TheVariants.{AndWord, OrWord, NotWord, OpenWord, CloseWord, Leaf, Pattern, Nodegroup, NoLetter, NoLeaf}
 use Rattle.target_tree.specs.Words.{tokens_of}
-use Rattle.target_tree.specs.Nodegroups.{text_of, is_among}
+use Rattle.target_tree.specs.Nodegroups.{text_named, is_among}
 use Rattle.target_tree.specs.Reading.{State, Answer, operand_word, operator_word, closing, closed, resumed, found, one_word, all_words, text_end, whole_text, group_word, ◌>>=◌}
 use Rattle.target_tree.specs.declared.reader.Part.{Part}
 use Rattle.target_tree.specs.declared.reader.Reader.{Reader as Machine}
@@ -100,4 +100,4 @@ pub erase-group : (depth : ℕ) (groups : List Group) (names : List (List ℕ)) 
 unfolding machine_group group_word
 erase-group zero groups names name m = refl
 erase-group (suc depth) groups names name m =
-    erase-found (machine_group depth groups) (group_word depth groups) (erase-group depth groups) names name m (text_of groups name)
+    erase-found (machine_group depth groups) (group_word depth groups) (erase-group depth groups) names name m (text_named groups name)

@@ -10,9 +10,9 @@ use Rattle.target_tree.specs.declared.reader.Ended.{Ended}
 use Rattle.target_tree.specs.declared.reader.Part.{Part}
 use Rattle.target_tree.specs.declared.fault.TargetFault.{TargetFault}
 use Rattle.target_tree.specs.declared.fault.TargetFault.TheVariants.{NoMemory, Empty, TooLong}
-use Rattle.target_tree.specs.Reading.{Counts, text_end, group_word, ◌>>=◌, Fails}
+use Rattle.target_tree.specs.Reading.{Counts, text_end, group_word, ◌>>=◌, IsFaultAsRead}
 use Rattle.target_tree.specs.Machine.{joined_or, Gives, counts_of, state_of, machine_all, machine_group, machine_begun, machine_end, machine_target, tree_of, machine_tree}
-use Rattle.target_tree.specs.Targets.{IsTarget, IsReadUnlessLimit, IsReadUnlessRefused, Answers, reading, target_words, sole_word}
+use Rattle.target_tree.specs.Targets.{IsTarget, IsReadUnlessLimit, IsReadUnlessRefused, IsAsRead, reading, target_words, sole_word}
 use Rattle.target_tree.specs.declared.kind.Kind.TheVariants.{Compound}
 use Rattle.target_tree.specs.Going.{Goes, going, within}
 use Rattle.target_tree.specs.declared.run.Outer.{Outer}
@@ -88,7 +88,7 @@ pub if-only : (kind : Kind) (groups : List Group) (text : List ℕ) (r : Result 
 if-only kind groups text (Ok t) h = only-clause kind groups text t h
 if-only kind groups text (Err f) h = tt
 
-pub fault-clause : (kind : Kind) (groups : List Group) (text : List ℕ) (r : Result Target TargetFault) → Gives r (machine_target kind groups text >>= tree_of) → Answers r (reading kind groups text)
+pub fault-clause : (kind : Kind) (groups : List Group) (text : List ℕ) (r : Result Target TargetFault) → Gives r (machine_target kind groups text >>= tree_of) → IsAsRead r (reading kind groups text)
 fault-clause kind groups text (Ok t) h =
     let e = bind_ok (machine_target kind groups text) tree_of t h in
     subst (λ (x : Result Counts TargetFault). IsOk x) (same-faults kind groups text) (subst (λ (x : Result Ended TargetFault). IsOk (erased counts_of x)) (sym e.1) refl)
@@ -100,7 +100,7 @@ fault-clause kind groups text (Err f) h =
     failed (Err x) e g = cc
 
 -- a fault that words which stand for a tree may have
-limit-or-memory : (f : TargetFault) (read : Result Counts TargetFault) → Fails f read → IsReadUnlessLimit read → IsReadUnlessRefused (Err f)
+limit-or-memory : (f : TargetFault) (read : Result Counts TargetFault) → IsFaultAsRead f read → IsReadUnlessLimit read → IsReadUnlessRefused (Err f)
 limit-or-memory NoMemory read h l = tt
 limit-or-memory f read h l = subst (λ (r : Result Counts TargetFault). IsReadUnlessLimit r) h l
 
@@ -123,7 +123,7 @@ compound-run groups text rest r h g = subst (λ (x : Result Target TargetFault).
     by false true e = cc
     by false false e = going-first groups (tokens_of text) ∙ ap (λ (x : List ℕ). going 257 groups [] (tokens_of x) (machine_begun 0 0 0)) (ok_is _ _ e)
 
-pub compound-shut : (groups : List Group) (text : List ℕ) (f : TargetFault) → Fails f (within text) → Fails f (machine_tree Compound groups text)
+pub compound-shut : (groups : List Group) (text : List ℕ) (f : TargetFault) → IsFaultAsRead f (within text) → IsFaultAsRead f (machine_tree Compound groups text)
 compound-shut groups text f h = carry f (within text) (machine_tree Compound groups text) h (λ e. by (nat_le (length (tokens_of text)) 0) (nat_le 4097 (length text)) e)
   where
     by : (a b : Bool) → (if a then Err Empty else if b then Err TooLong else Ok text) ≡ Err f
@@ -160,9 +160,9 @@ sole-run kind groups text os new m next w none rest r other some few a b c d goe
 
 pub sole-fails : (kind : Kind) (groups : List Group) (text : List ℕ) (os : List Outer) (m : Machine) (w : Token) (none : List ℕ) (f : TargetFault)
     → kind ≢ Compound → nat_eq (length text) 0 ≡ false → length text ≤ 4096 → os ≡ [] → m ≡ machine_begun 0 0 0 → w ≡ sole_word kind text → tokens_of none ≡ []
-    → Fails f (going (257 - length os) groups os (w ∷ tokens_of none) m) → Fails f (machine_tree kind groups text)
+    → IsFaultAsRead f (going (257 - length os) groups os (w ∷ tokens_of none) m) → IsFaultAsRead f (machine_tree kind groups text)
 sole-fails kind groups text os m w none f other some few a b c d h =
-    subst (λ (x : Result Target TargetFault). Fails f x) (sym (sole-tree kind groups text other some few ∙ sole-begun groups os m w (sole_word kind text) none a b c d)) h
+    subst (λ (x : Result Target TargetFault). IsFaultAsRead f x) (sym (sole-tree kind groups text other some few ∙ sole-begun groups os m w (sole_word kind text) none a b c d)) h
 
 pub no-tokens : tokens_of [] ≡ []
 unfolding tokens_of

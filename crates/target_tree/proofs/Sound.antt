@@ -9,7 +9,7 @@ use Rattle.target_tree.specs.declared.fault.TargetFault.TheVariants.{Empty, TooL
 use Rattle.target_tree.specs.declared.token.Token.{Token}
 use Rattle.target_tree.specs.declared.token.Token.TheVariants.{AndWord, OrWord, NotWord, OpenWord, CloseWord, Leaf, Pattern, Nodegroup, NoLetter, NoLeaf}
 use Rattle.target_tree.specs.Words.{tokens_of}
-use Rattle.target_tree.specs.Nodegroups.{text_of, is_among}
+use Rattle.target_tree.specs.Nodegroups.{text_named, is_among}
 use Rattle.target_tree.specs.Grammar.{operand, conjunction, compound, Stands, one_leaf, one_pattern, one_group, negated, in_parens, one_operand, joined_by_and, one_conjunction, joined_by_or}
 use Rattle.target_tree.specs.Reading.{◌>>=◌}
 use Rattle.target_tree.specs.declared.reader.Part.{Part}
@@ -304,7 +304,7 @@ not-among false e r x h = refl
 
 module _ (groups : List Group) where
   found-stands : (group : List (List ℕ) → List ℕ → Machine → Step) → ((names : List (List ℕ)) (name : List ℕ) (m new : Machine) → group names name m ≡ Ok new → IsGroup groups names name m new)
-      → (names : List (List ℕ)) (name : List ℕ) (m new : Machine) (text : Option (List ℕ)) → text_of groups name ≡ text → machine_found group names name m text ≡ Ok new → IsGroup groups names name m new
+      → (names : List (List ℕ)) (name : List ℕ) (m new : Machine) (text : Option (List ℕ)) → text_named groups name ≡ text → machine_found group names name m text ≡ Ok new → IsGroup groups names name m new
   found-stands group sound names name m new None there e = cc
   found-stands group sound names name m new (Some text) there e =
       let inner = bind_ok (machine_text (group (name ∷ names)) text (machine_begun m.part.nest.deep (m.at + 1) m.patterns)) (machine_resumed m) new (unguarded (is_among names name) (Circle m.at) _ new e) in
@@ -319,4 +319,4 @@ module _ (groups : List Group) where
   pub group-stands : (depth : ℕ) (names : List (List ℕ)) (name : List ℕ) (m new : Machine) → machine_group depth groups names name m ≡ Ok new → IsGroup groups names name m new
   unfolding machine_group
   group-stands zero names name m new e = cc
-  group-stands (suc depth) names name m new e = found-stands (machine_group depth groups) (group-stands depth) names name m new (text_of groups name) refl e
+  group-stands (suc depth) names name m new e = found-stands (machine_group depth groups) (group-stands depth) names name m new (text_named groups name) refl e

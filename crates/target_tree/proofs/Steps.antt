@@ -14,8 +14,8 @@ use Rattle.target_tree.specs.declared.run.Outer.{Outer}
 use Rattle.target_tree.specs.declared.fault.TargetFault.{TargetFault}
 use Rattle.target_tree.specs.declared.fault.TargetFault.TheVariants.{NoMemory, Empty, TooLong, TooDeep, TooManyWords, TooManyPatterns, Circle}
 use Rattle.target_tree.specs.Words.{tokens_of}
-use Rattle.target_tree.specs.Nodegroups.{text_of, is_among}
-use Rattle.target_tree.specs.Reading.{◌>>=◌, Fails}
+use Rattle.target_tree.specs.Nodegroups.{text_named, is_among}
+use Rattle.target_tree.specs.Reading.{◌>>=◌, IsFaultAsRead}
 use Rattle.target_tree.specs.Machine.{Step, machine_operator, machine_closing, machine_operand, machine_by, machine_word, machine_all, machine_end, machine_end_by, machine_closed, machine_resumed, machine_group, machine_found, machine_text, machine_begun, no_group}
 use Rattle.target_tree.specs.Going.{Goes, going, names_of, within, entered_by, opened_by, opened}
 
@@ -93,7 +93,7 @@ found-entered depth groups names name m (Some text) = tested (is_among names nam
 by-opened : (depth : ℕ) (groups : List Group) (names : List (List ℕ)) (name : List ℕ) (m : Machine) (last : Option Target)
     → machine_by (machine_group (suc depth) groups names) (Nodegroup name) last m ≡ (opened_by groups names name m.at last >>= inner depth groups (name ∷ names) m)
 unfolding machine_group
-by-opened depth groups names name m None = found-entered depth groups names name m (text_of groups name)
+by-opened depth groups names name m None = found-entered depth groups names name m (text_named groups name)
 by-opened depth groups names name m (Some t) = refl
 
 word-opened : (depth : ℕ) (groups : List Group) (names : List (List ℕ)) (name : List ℕ) (m : Machine)
@@ -118,7 +118,7 @@ pub going-shut : (depth : ℕ) (groups : List Group) (os : List Outer) (name : L
 going-shut depth groups os name ws m f e =
     going-step (suc depth) groups os (Nodegroup name) ws m (Err f) (word-opened depth groups (names_of os) name m ∙ ap (λ (r : Result (List ℕ) TargetFault). r >>= inner depth groups (name ∷ names_of os) m) e)
 
-pub carry : {A B : Type 0} (f : TargetFault) (to : Result A TargetFault) (on : Result B TargetFault) → Fails f to → (to ≡ Err f → on ≡ Err f) → Fails f on
+pub carry : {A B : Type 0} (f : TargetFault) (to : Result A TargetFault) (on : Result B TargetFault) → IsFaultAsRead f to → (to ≡ Err f → on ≡ Err f) → IsFaultAsRead f on
 carry NoMemory to on h each = tt
 carry f to on h each = each h
 
@@ -148,8 +148,8 @@ goes-open groups o os new text next le e pushed begun =
       nested = omega arith;
     }
 
-pub shut-goes : (groups : List Group) (os : List Outer) (name : List ℕ) (ws : List Token) (m : Machine) (f : TargetFault) → length os ≤ m.at → m.at ≤ 256 → Fails f (opened groups (names_of os) name m)
-    → Fails f (going (257 - length os) groups os (Nodegroup name ∷ ws) m)
+pub shut-goes : (groups : List Group) (os : List Outer) (name : List ℕ) (ws : List Token) (m : Machine) (f : TargetFault) → length os ≤ m.at → m.at ≤ 256 → IsFaultAsRead f (opened groups (names_of os) name m)
+    → IsFaultAsRead f (going (257 - length os) groups os (Nodegroup name ∷ ws) m)
 shut-goes groups os name ws m f le few h =
     let outside : 257 - length os ≡ suc (256 - length os) = omega arith in
     carry f (opened groups (names_of os) name m) (going (257 - length os) groups os (Nodegroup name ∷ ws) m) h
@@ -205,7 +205,7 @@ goes-plain groups os w m next more plain e =
       nested = omega arith;
     }
 
-pub plain-fails : (groups : List Group) (os : List Outer) (w : Token) (ws : List Token) (m : Machine) (f : TargetFault) → IsPlain w → Fails f (machine_word no_group w m) → Fails f (going (257 - length os) groups os (w ∷ ws) m)
+pub plain-fails : (groups : List Group) (os : List Outer) (w : Token) (ws : List Token) (m : Machine) (f : TargetFault) → IsPlain w → IsFaultAsRead f (machine_word no_group w m) → IsFaultAsRead f (going (257 - length os) groups os (w ∷ ws) m)
 plain-fails groups os w ws m f plain h =
     carry f (machine_word no_group w m) (going (257 - length os) groups os (w ∷ ws) m) h
     (λ e. going-step (257 - length os) groups os w ws m (Err f) (plain-word (machine_group (257 - length os) groups (names_of os)) w m plain ∙ e))
@@ -220,7 +220,7 @@ pub run-word : (groups : List Group) (os new : List Outer) (m next : Machine) (r
 run-word groups os new m next rest more to w whole words so step = so ∙ (ap (λ (ws : List Token). going (257 - length os) groups os ws m) words ∙ step.same)
 
 pub run-word-fails : (groups : List Group) (os : List Outer) (m : Machine) (rest more : List ℕ) (w : Token) (whole : Result Target TargetFault) (f : TargetFault) → tokens_of rest ≡ w ∷ tokens_of more
-    → whole ≡ going (257 - length os) groups os (tokens_of rest) m → Fails f (going (257 - length os) groups os (w ∷ tokens_of more) m) → Fails f whole
+    → whole ≡ going (257 - length os) groups os (tokens_of rest) m → IsFaultAsRead f (going (257 - length os) groups os (w ∷ tokens_of more) m) → IsFaultAsRead f whole
 run-word-fails groups os m rest more w whole f words so h =
     carry f (going (257 - length os) groups os (w ∷ tokens_of more) m) whole h (λ e. so ∙ (ap (λ (ws : List Token). going (257 - length os) groups os ws m) words ∙ e))
 
@@ -241,7 +241,7 @@ run-end groups os new o m next rest whole e none few so popped h resumed =
     ∙ ap (λ (d : ℕ). going d groups new (tokens_of o.rest.now) next) depth))))
 
 pub run-end-fails : (groups : List Group) (os : List Outer) (m : Machine) (rest : List ℕ) (whole : Result Target TargetFault) (f : TargetFault) → tokens_of rest ≡ [] → whole ≡ going (257 - length os) groups os (tokens_of rest) m
-    → Fails f (machine_end m) → Fails f whole
+    → IsFaultAsRead f (machine_end m) → IsFaultAsRead f whole
 run-end-fails groups os m rest whole f none so h =
     carry f (machine_end m) whole h (λ e. so ∙ (ap (λ (ws : List Token). going (257 - length os) groups os ws m) none ∙ going-fails (257 - length os) groups os m f e))
 

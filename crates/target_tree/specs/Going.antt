@@ -1,4 +1,4 @@
--- What is left to be read, over the texts that wait for the words of a nodegroup.
+-- What is left to be read, over the texts that wait for the words of a nodegroup. No public contract cites it.
 use Rattle.std.specs.Prelude.{◌≡◌, ℕ, suc, ◌+◌, ◌-◌, ◌≤◌, List, [], ◌∷◌, length, map, Option, None, Some, Result, Ok, Err, if◌then◌else◌, nat_le, nat_lt}
 use Rattle.std.specs.Borrow.{Bor}
 use Rattle.target_tree.specs.Nodegroups.{Group}
@@ -10,10 +10,11 @@ use Rattle.target_tree.specs.declared.fault.TargetFault.{TargetFault}
 use Rattle.target_tree.specs.declared.fault.TargetFault.TheVariants.{Empty, TooLong, Word, TooManyWords, UnknownGroup, Circle}
 use Rattle.target_tree.specs.Limits.{most_text_bytes, most_words}
 use Rattle.target_tree.specs.Words.{tokens_of}
-use Rattle.target_tree.specs.Nodegroups.{text_of, is_among}
-use Rattle.target_tree.specs.Reading.{◌>>=◌, Fails}
+use Rattle.target_tree.specs.Nodegroups.{text_named, is_among}
+use Rattle.target_tree.specs.Reading.{◌>>=◌, IsFaultAsRead}
 use Rattle.target_tree.specs.Machine.{machine_all, machine_end, machine_resumed, machine_group}
 
+-- the names of the nodegroups that are being expanded
 abbrev pub names_of : List Outer → List (List ℕ)
 names_of outers = map (λ (o : Outer). o.name) outers
 
@@ -36,21 +37,23 @@ abbrev pub entered_by : List (List ℕ) → List ℕ → ℕ → Option (List �
 entered_by names name at None = Err (UnknownGroup at)
 entered_by names name at (Some text) = if is_among names name then Err (Circle at) else within text
 
+-- the same by its name
 abbrev pub entered : List Group → List (List ℕ) → List ℕ → ℕ → Result (List ℕ) TargetFault
-entered groups names name at = entered_by names name at (text_of groups name)
+entered groups names name at = entered_by names name at (text_named groups name)
 
+-- the text that a nodegroup's word begins, by whether an operand is due
 abbrev pub opened_by : List Group → List (List ℕ) → List ℕ → ℕ → Option Target → Result (List ℕ) TargetFault
 opened_by groups names name at None = entered groups names name at
 opened_by groups names name at (Some t) = Err (Word at)
 
--- the text that a nodegroup's word begins
+-- the same where words may still come
 abbrev pub opened : List Group → List (List ℕ) → List ℕ → Machine → Result (List ℕ) TargetFault
 opened groups names name m = if nat_le most_words m.at then Err TooManyWords else opened_by groups names name m.at m.last
 
 -- What a function returned, seen by `view`, is what is to be given, unless memory ran out.
 abbrev pub GivesBy : {A B : Type 0} → (A → B) → Result A TargetFault → Result B TargetFault → Type 0
 GivesBy view (Ok x) to = to ≡ Ok (view x)
-GivesBy view (Err e) to = Fails e to
+GivesBy view (Err e) to = IsFaultAsRead e to
 
 -- A step from these texts to those: what is left then gives what was left before.
 pub record Goes (groups : List Group) (old new : List Outer) (reader : Machine) (words : List Token) (next : Machine) (rest : List ℕ) : Type 0 where
@@ -62,4 +65,4 @@ pub record Goes (groups : List Group) (old new : List Outer) (reader : Machine) 
 -- A step goes on so, or its fault is that of what is left, unless memory ran out.
 abbrev pub GoesOn : List Group → List Outer → List Outer → Machine → List Token → Result (Machine × Bor (List ℕ)) TargetFault → Type 0
 GoesOn groups old new reader words (Ok x) = Goes groups old new reader words x.0 x.1.now
-GoesOn groups old new reader words (Err e) = Fails e (going (257 - length old) groups old words reader)
+GoesOn groups old new reader words (Err e) = IsFaultAsRead e (going (257 - length old) groups old words reader)

@@ -6,7 +6,7 @@ use Rattle.target_tree.specs.declared.target.Target.TheVariants.{Not, And, Or}
 use Rattle.target_tree.specs.declared.token.Token.{Token}
 use Rattle.target_tree.specs.declared.token.Token.TheVariants.{AndWord, OrWord, NotWord, OpenWord, CloseWord, Leaf, Pattern, Nodegroup}
 use Rattle.target_tree.specs.Words.{tokens_of}
-use Rattle.target_tree.specs.Nodegroups.{text_of, is_among}
+use Rattle.target_tree.specs.Nodegroups.{text_named, is_among}
 
 -- what words stand for: an operand, operands joined by `and`, and those joined by `or`
 pub data Level : Type 0 where
@@ -20,7 +20,7 @@ pub data Stands (groups : List Group) : List (List ℕ) → Level → List Token
   one_leaf : {names : List (List ℕ)} {tree : Target} → Stands groups names operand (Leaf tree ∷ []) tree
   one_pattern : {names : List (List ℕ)} {tree : Target} → Stands groups names operand (Pattern tree ∷ []) tree
   -- a nodegroup's word stands for the tree of its own text, unless it is being expanded
-  one_group : {names : List (List ℕ)} {name : List ℕ} {tree : Target} → (text : List ℕ) → text_of groups name ≡ Some text → is_among names name ≡ false
+  one_group : {names : List (List ℕ)} {name : List ℕ} {tree : Target} → (text : List ℕ) → text_named groups name ≡ Some text → is_among names name ≡ false
       → Stands groups (name ∷ names) compound (tokens_of text) tree → Stands groups names operand (Nodegroup name ∷ []) tree
   -- `not` stands before an operand
   negated : {names : List (List ℕ)} {words : List Token} {tree : Target} → Stands groups names operand words tree → Stands groups names operand (NotWord ∷ words) (Not tree)

@@ -9,12 +9,12 @@ abbrev pub Group : Type 0
 Group = List ℕ × List ℕ
 
 -- the text of the nodegroup that has this name
-abbrev pub text_of : List Group → List ℕ → Option (List ℕ)
-text_of groups name = lookup (bytes_eq name) groups
+abbrev pub text_named : List Group → List ℕ → Option (List ℕ)
+text_named groups name = lookup (bytes_eq name) groups
 
 -- a nodegroup has this name
 abbrev pub is_named : List Group → List ℕ → Bool
-is_named groups name = is_some (text_of groups name)
+is_named groups name = is_some (text_named groups name)
 
 -- each name is an id
 abbrev pub AreIds : List Group → Type 0

@@ -7,7 +7,7 @@ use Rattle.target_tree.specs.declared.token.Token.{Token}
 use Rattle.target_tree.specs.declared.token.Token.TheVariants.{AndWord, OrWord, NotWord, OpenWord, CloseWord, Leaf, Pattern, Nodegroup, NoLetter, NoLeaf}
 use Rattle.target_tree.specs.Words.{tokens_of}
 use Rattle.target_tree.specs.Limits.{most_text_bytes, most_words, most_open, most_patterns}
-use Rattle.target_tree.specs.Nodegroups.{text_of, is_among}
+use Rattle.target_tree.specs.Nodegroups.{text_named, is_among}
 
 -- Of a parenthesis, or of a whole text: how many words `not` and `(` stood open where it began, and how many do now.
 pub record Nest : Type 0 where
@@ -41,9 +41,9 @@ abbrev pub ◌>>=◌ : {A B : Type 0} → Result A TargetFault → (A → Result
 (Err e) >>= f = Err e
 
 -- A fault that was answered is that of this reading, unless memory ran out.
-abbrev pub Fails : {A : Type 0} → TargetFault → Result A TargetFault → Type 0
-Fails NoMemory reading = Unit {0}
-Fails fault reading = reading ≡ Err fault
+abbrev pub IsFaultAsRead : {A : Type 0} → TargetFault → Result A TargetFault → Type 0
+IsFaultAsRead NoMemory reading = Unit {0}
+IsFaultAsRead fault reading = reading ≡ Err fault
 
 -- a word more was read
 abbrev pub read_on : State → State
@@ -141,4 +141,4 @@ found group names name s (Some text) =
 -- Each text within a text follows a word, so no more than 256 lie in one another.
 unfoldable pub group_word : ℕ → List Group → List (List ℕ) → List ℕ → State → Answer
 group_word zero groups names name s = Err TooManyWords
-group_word (suc depth) groups names name s = found (group_word depth groups) names name s (text_of groups name)
+group_word (suc depth) groups names name s = found (group_word depth groups) names name s (text_named groups name)

@@ -12,7 +12,7 @@ use Rattle.target_tree.specs.declared.token.Token.TheVariants.{Leaf, Pattern, No
 use Rattle.target_tree.specs.Limits.{most_text_bytes, most_words}
 use Rattle.target_tree.specs.Words.{id_list, tokens_of}
 use Rattle.target_tree.specs.Grammar.{compound, Stands}
-use Rattle.target_tree.specs.Reading.{Counts, Fails, text_end, begun, all_words, group_word, ◌>>=◌}
+use Rattle.target_tree.specs.Reading.{Counts, IsFaultAsRead, text_end, begun, all_words, group_word, ◌>>=◌}
 
 -- the one word that the text of another kind than compound is
 abbrev pub sole_word : Kind → List ℕ → Token
@@ -44,9 +44,9 @@ abbrev pub IsTarget : Kind → List Group → List ℕ → Target → Type 0
 IsTarget kind groups text tree = Stands groups [] compound (target_words kind text) tree
 
 -- A tree is answered where the reading has no fault; a fault that isn't want of memory is that of the reading.
-abbrev pub Answers : Result Target TargetFault → Result Counts TargetFault → Type 0
-Answers (Ok tree) read = IsOk read
-Answers (Err fault) read = Fails fault read
+abbrev pub IsAsRead : Result Target TargetFault → Result Counts TargetFault → Type 0
+IsAsRead (Ok tree) read = IsOk read
+IsAsRead (Err fault) read = IsFaultAsRead fault read
 
 -- a limit, which also words that stand for a tree may pass
 abbrev pub IsLimit : TargetFault → Type 0

@@ -1,3 +1,4 @@
+//! Why a text is no target.
 use std::alloc::AllocError;
 use thiserror::Error;
 

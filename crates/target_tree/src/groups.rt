@@ -1,5 +1,6 @@
+//! Nodegroups.
 ghost use Rattle.std.specs.Prelude.{◌≡◌, [], ◌∷◌, ◌++◌, ◌↔◌, IsTrue, MatchOption, None, Some, Err, IfErr, OnOk, OnErr};
-ghost use Rattle.target_tree.specs.Nodegroups.{text_of, is_named, AreIds};
+ghost use Rattle.target_tree.specs.Nodegroups.{text_named, is_named, AreIds};
 ghost use Rattle.salt_value.specs.Id.{IsId};
 
 use indexmap::IndexMap;
@@ -42,7 +43,7 @@ fn put_last(
     name: MinionId,
     text: Text,
 ) -> Result<(), GroupFault>
-    requires absent { text_of texts.old.entries name ≡ None }
+    requires absent { text_named texts.old.entries name ≡ None }
     requires id { IsId name }
     requires ids { AreIds texts.old.entries }
     ensures added { OnOk result (texts.new.entries ≡ texts.old.entries ++ (name, text) ∷ []) }
@@ -69,8 +70,8 @@ impl Groups {
     /// Adds a nodegroup after the others. Its text is read only where a target names it. `Twice` comes exactly where the name is there.
     /// After an error nothing has changed.
     pub fn add(&mut self, name: MinionId, text: Text) -> Result<(), GroupFault>
-        ensures added { OnOk result (self.new ≡ self.old ++ (name, text) ∷ []) }
-        ensures unchanged { OnErr result (self.new ≡ self.old) }
+        ensures ok { OnOk result (self.new ≡ self.old ++ (name, text) ∷ []) }
+        ensures err { OnErr result (self.new ≡ self.old) }
         ensures twice { (result ≡ Err GroupFault.Twice) ↔ IsTrue (is_named self.old name) }
     {
         if self.find(name.as_str()).is_some() {
@@ -81,7 +82,7 @@ impl Groups {
 
     /// The text of a name, if a nodegroup has it.
     pub fn find(&self, name: &str) -> Option<&Text>
-        ensures { MatchOption result (text_of self.now name.now ≡ None) (λ text. text_of self.now name.now ≡ Some text.now) }
+        ensures { MatchOption result (text_named self.now name.now ≡ None) (λ text. text_named self.now name.now ≡ Some text.now) }
     {
         match MinionId::read(name) {
             Ok(id) => self.texts.get(&id),

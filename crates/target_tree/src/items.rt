@@ -1,3 +1,4 @@
+//! Lists of ids.
 ghost use Rattle.std.specs.Prelude.{◌≡◌, true, false, reverse, IfOk, MatchOption};
 ghost use Rattle.target_tree.specs.Words.{id_list, is_id, trimmed, without_spaces};
 

@@ -1,3 +1,4 @@
+//! Kinds of targets, with their codes and names.
 ghost use Rattle.std.specs.Prelude.{◌≡◌, bytes_eq};
 ghost use Rattle.target_tree.specs.Kinds.{TheKind, code_of, name_of};
 

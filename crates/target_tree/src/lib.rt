@@ -1,4 +1,5 @@
 //! Targets: the words of a compound, their tree, and their faults.
+//! `read_target(alloc, Kind::Compound, "web* and not G@os:debian", &groups)?` is the tree `And(web*, Not(os:debian))`.
 #![tactic(auto)]
 
 mod copy;

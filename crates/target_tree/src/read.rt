@@ -1,10 +1,11 @@
+//! The reading of a whole target.
 ghost use Rattle.std.specs.Prelude.{◌≡◌, ◌≢◌, IfOk, IsOk};
 ghost use Rattle.target_tree.specs.declared.target.Target.{Target as Tree};
 ghost use Rattle.target_tree.specs.declared.kind.Kind.{Kind as AnyKind};
 ghost use Rattle.target_tree.specs.Nodegroups.{Group};
 ghost use Rattle.std.specs.Prelude.{ℕ, List};
 ghost use Rattle.target_tree.specs.Machine.{Gives, machine_tree};
-ghost use Rattle.target_tree.specs.Targets.{IsTarget, IsReadUnlessLimit, IsReadUnlessRefused, Answers, reading, sole_word};
+ghost use Rattle.target_tree.specs.Targets.{IsTarget, IsReadUnlessLimit, IsReadUnlessRefused, IsAsRead, reading, sole_word};
 
 use crate::items::id_list_of;
 use crate::limits::MOST_TEXT_BYTES;
@@ -103,7 +104,7 @@ pub fn read_target(
     // What is read stands for this tree, and for no other.
     ensures ok { IfOk result (IsTarget kind groups.now text.now) }
     // Each fault comes exactly where the reading has it.
-    ensures fault { Answers result (reading kind groups.now text.now) }
+    ensures fault { IsAsRead result (reading kind groups.now text.now) }
     // Every text that stands for a tree is read, but for the limits and memory.
     ensures complete { (tree : Tree) → IsTarget kind groups.now text.now tree → IsReadUnlessRefused result }
     ensures unique { IfOk result (λ tree. (other : Tree) → IsTarget kind groups.now text.now other → other ≡ tree) }

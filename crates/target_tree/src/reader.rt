@@ -1,3 +1,4 @@
+//! The reading of one text, word by word: what stands before its last operand, in each parenthesis that is open.
 ghost use Rattle.std.specs.Prelude.{◌≡◌, ◌-◌, ◌<◌, Ok, IfOk};
 ghost use Rattle.target_tree.specs.Machine.{Gives, fresh, mended, joined_and, joined_or, negations, machine_begun, machine_operand, machine_operator, machine_closing, machine_word, machine_end, machine_resumed, no_group};
 

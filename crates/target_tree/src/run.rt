@@ -1,3 +1,4 @@
+//! The reading of a text and of those that its nodegroups stand for.
 ghost use Rattle.std.specs.Prelude.{◌≡◌, ◌+◌, ◌-◌, ◌≤◌, ◌<◌, ◌∷◌, Ok, IfOk, IfErr, OnOk, length};
 ghost use Rattle.target_tree.specs.Words.{tokens_of, token};
 ghost use Rattle.target_tree.specs.Nodegroups.{is_among};

@@ -1,3 +1,4 @@
+//! Trees of targets.
 ghost use Rattle.std.specs.Prelude.{◌≡◌, IfOk};
 
 use crate::copy;

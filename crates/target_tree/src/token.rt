@@ -1,3 +1,4 @@
+//! What a word is.
 ghost use Rattle.std.specs.Prelude.{◌≡◌, false, IfOk, MatchOption};
 ghost use Rattle.target_tree.specs.Words.{token, lettered, operand_token, is_paren, is_letter, is_lettered};
 ghost use Rattle.std.specs.List.{list_any};

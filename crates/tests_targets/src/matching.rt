@@ -432,6 +432,20 @@ static EDGE_GLOBS: [(&str, Told); 19] = [
     ("a.b:w", Told::ByData(false)),
 ];
 
+// A pattern that can be read, whose tables would be too big, is told by its leaf.
+static BIG: [(Kind, &str, Told); 2] = [
+    (
+        Kind::Pcre,
+        "(a{1000}){1000}",
+        Told::Unbuilt(BuildFault::TooBig { leaf: 0 }),
+    ),
+    (
+        Kind::Compound,
+        "web* and E@a or P@os:(a{1000}){1000} or E@(",
+        Told::Unbuilt(BuildFault::TooBig { leaf: 2 }),
+    ),
+];
+
 static ID: &str = "web1.example.com";
 
 #[test]
@@ -491,4 +505,11 @@ fn other_kinds_hold(rt: HostRuntime) {
     let minion = made_minion(&rt, alloc, ID, &GRAINS, &PILLAR);
     let groups = circle(&rt, alloc);
     tells_kinds(&rt, alloc, &minion, &groups, &OTHER_KINDS);
+}
+
+#[test]
+fn big_patterns_are_told(rt: HostRuntime) {
+    let alloc = rt.alloc();
+    let minion = made_minion(&rt, alloc, ID, &[], &[]);
+    tells_kinds(&rt, alloc, &minion, &Groups::new(alloc), &BIG);
 }

@@ -35,11 +35,15 @@ static GROUPS: [(GroupFault, &str); 2] = [
     (GroupFault::Twice, "a nodegroup has this name already"),
 ];
 
-static BUILDS: [(BuildFault, &str); 2] = [
+static BUILDS: [(BuildFault, &str); 3] = [
     (BuildFault::NoMemory, "no memory was found"),
     (
         BuildFault::BadPattern { leaf: 7 },
         "the pattern of leaf 7 cannot be read",
+    ),
+    (
+        BuildFault::TooBig { leaf: 0 },
+        "the pattern of leaf 0 is too big",
     ),
 ];
 

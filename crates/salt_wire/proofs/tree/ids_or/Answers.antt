@@ -1,9 +1,10 @@
 use Rattle.salt_wire.specs.Decoding.{id_or}
-use Rattle.salt_wire.proofs.LoopLemmas.{goes_on, ends, is_done}
+use Rattle.salt_wire.specs.declared.fault.Misread.TheVariants.{NoMemory}
+use Rattle.salt_value.proofs.ReaderLoops.{goes_on, ends, is_done}
 use Rattle.salt_wire.proofs.tree.ids_or.Goals as goal
 
 pub returns-in-Err : goal.returns-in-Err
-returns-in-Err c = ends (id_or c.args.bad) c.in-Err.fault c.loop.ids c.args.count c.loop.counter c.loop.rest.now _ c.loop-test.true c.in-Err.ensures.gives c.loop.invariant
+returns-in-Err c = ends (id_or c.args.bad) NoMemory c.in-Err.fault c.loop.ids c.args.count c.loop.counter c.loop.rest.now _ c.loop-test.true c.in-Err.ensures.gives c.loop.invariant
 
 pub loop-preserved : goal.loop-preserved
 loop-preserved c =

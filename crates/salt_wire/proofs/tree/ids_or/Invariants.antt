@@ -1,6 +1,7 @@
 use Rattle.std.proofs.Common.{◌≡◌, ◌-◌}
-use Rattle.salt_wire.specs.Decoding.{several, id_or}
-use Rattle.salt_wire.proofs.LoopLemmas.{with_front}
+use Rattle.salt_value.specs.Readers.{several}
+use Rattle.salt_wire.specs.Decoding.{id_or}
+use Rattle.salt_value.proofs.ReaderLoops.{with_front}
 use Rattle.salt_wire.proofs.tree.ids_or.Given as goal
 
 abbrev pub invariant-loop : goal.invariant-loop

@@ -15,24 +15,24 @@ child_meets-meets-requires t c =
 
 pub meets-returns-in-Null : goal.meets-returns-in-Null
 meets-returns-in-Null t c =
-    c.glob_caseless.ensures.value ∙ ap (λ p. glob_caseless p (codes "None")) c.as_bytes.ensures.value
+    c.glob_caseless.ensures.exact ∙ ap (λ p. glob_caseless p (codes "None")) c.as_bytes.ensures.value
     ∙ sym (meets-Null c.args.text.now) ∙ ap (λ v. meets v (parts c.args.text.now)) (sym c.in-Null.is)
 
 pub meets-returns-in-Flag : goal.meets-returns-in-Flag
 meets-returns-in-Flag t c =
-    c.glob_caseless-in-Flag.ensures.value ∙ ap (λ p. glob_caseless p c.as_bytes-in-Flag-2.result.now) c.as_bytes-in-Flag.ensures.value
+    c.glob_caseless-in-Flag.ensures.exact ∙ ap (λ p. glob_caseless p c.as_bytes-in-Flag-2.result.now) c.as_bytes-in-Flag.ensures.value
     ∙ ap (glob_caseless c.args.text.now) (c.as_bytes-in-Flag-2.ensures.value ∙ c.name_of.ensures)
     ∙ sym (meets-Flag c.in-Flag.flag c.args.text.now) ∙ ap (λ v. meets v (parts c.args.text.now)) (sym c.in-Flag.is)
 
 pub meets-returns-in_ok-digits-in-Int : goal.meets-returns-in_ok-digits-in-Int
 meets-returns-in_ok-digits-in-Int t c =
-    c.glob_caseless-in-Int.ensures.value ∙ ap (λ p. glob_caseless p c.as_bytes-in-Int-2.result.now) c.as_bytes-in-Int.ensures.value
+    c.glob_caseless-in-Int.ensures.exact ∙ ap (λ p. glob_caseless p c.as_bytes-in-Int-2.result.now) c.as_bytes-in-Int.ensures.value
     ∙ ap (glob_caseless c.args.text.now) (c.as_bytes-in-Int-2.ensures.value ∙ c.in_ok-digits-in-Int.ensures.ok)
     ∙ sym (meets-Int c.in-Int.number c.args.text.now) ∙ ap (λ v. meets v (parts c.args.text.now)) (sym c.in-Int.is)
 
 pub meets-returns-in-Str : goal.meets-returns-in-Str
 meets-returns-in-Str t c =
-    c.glob_caseless-in-Str.ensures.value ∙ ap (λ p. glob_caseless p c.as_bytes-in-Str-2.result.now) c.as_bytes-in-Str.ensures.value
+    c.glob_caseless-in-Str.ensures.exact ∙ ap (λ p. glob_caseless p c.as_bytes-in-Str-2.result.now) c.as_bytes-in-Str.ensures.value
     ∙ ap (glob_caseless c.args.text.now) c.as_bytes-in-Str-2.ensures
     ∙ sym (meets-Str c.in-Str.own c.args.text.now) ∙ ap (λ v. meets v (parts c.args.text.now)) (sym c.in-Str.is)
 

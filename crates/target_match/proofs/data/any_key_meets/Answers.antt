@@ -10,7 +10,7 @@ returns-then-glob_caseless c =
     let i = c.loop-name.name-index in
     let d = c.loop-name-item.result in
     let one : glob_caseless c.args.glob.now d.0 ≡ true =
-    ap (λ t. glob_caseless t d.0) (sym c.as_bytes.ensures.value) ∙ ap (glob_caseless c.as_bytes.result.now) (sym c.as_bytes-in-loop-name.ensures) ∙ sym c.glob_caseless.ensures.value ∙ c.if-glob_caseless.true in
+    ap (λ t. glob_caseless t d.0) (sym c.as_bytes.ensures.value) ∙ ap (glob_caseless c.as_bytes.result.now) (sym c.as_bytes-in-loop-name.ensures) ∙ sym c.glob_caseless.ensures.exact ∙ c.if-glob_caseless.true in
     sym (keys-any c.args.glob.now c.args.pairs.now ∙ c.loop-name.invariant
     ∙ any-some (λ p. glob_caseless c.args.glob.now p.0) c.args.pairs.now i d c.loop-name-test.true (ap (λ p. glob_caseless c.args.glob.now p.0) (sym c.loop-name-item.is) ∙ one))
 

@@ -14,7 +14,7 @@ use Rattle.target_match.proofs.holding.+holds.Goals as goal
 pub returns-in-IdGlob-clause-value : goal.returns-in-IdGlob-clause-value
 returns-in-IdGlob-clause-value t c =
     let a = c.args in
-    c.glob.ensures.value ∙ ap (λ x. glob x c.as_bytes-in-IdGlob.result.now) c.as_bytes.ensures ∙ ap (glob c.in-IdGlob.text) c.as_bytes-in-IdGlob.ensures.value
+    c.glob.ensures.exact ∙ ap (λ x. glob x c.as_bytes-in-IdGlob.result.now) c.as_bytes.ensures ∙ ap (glob c.in-IdGlob.text) c.as_bytes-in-IdGlob.ensures.value
     ∙ sym (R.holds-IdGlob c.in-IdGlob.text a.id.now a.grains.now a.pillar.now) ∙ ap (λ x. holds (target_of x) a.id.now a.grains.now a.pillar.now) (sym c.in-IdGlob.is)
 
 pub returns-in-IdPcre-clause-value : goal.returns-in-IdPcre-clause-value
@@ -33,7 +33,7 @@ returns-in-IdList-clause-value t c =
 pub returns-in-GrainGlob-clause-value : goal.returns-in-GrainGlob-clause-value
 returns-in-GrainGlob-clause-value t c =
     let a = c.args in
-    carried c.pairs_meet.result _ _ c.pairs_meet.ensures (ap (λ x. map_meets (told_pairs a.grains.now) (parts x)) c.as_str-in-GrainGlob.ensures
+    carried c.pairs_meet.result _ _ c.pairs_meet.ensures (ap (λ x. map_meets (told_pairs a.grains.now) (parts x)) c.as_str-in-GrainGlob.ensures.value
     ∙ sym (glob-holds c.in-GrainGlob.text a.grains.now)
     ∙ sym (R.holds-GrainGlob c.in-GrainGlob.text a.id.now a.grains.now a.pillar.now) ∙ ap (λ x. holds (target_of x) a.id.now a.grains.now a.pillar.now) (sym c.in-GrainGlob.is))
 
@@ -46,7 +46,7 @@ returns-in-GrainPcre-clause-value t c =
 pub returns-in-PillarGlob-clause-value : goal.returns-in-PillarGlob-clause-value
 returns-in-PillarGlob-clause-value t c =
     let a = c.args in
-    carried c.pairs_meet-in-PillarGlob.result _ _ c.pairs_meet-in-PillarGlob.ensures (ap (λ x. map_meets (told_pairs a.pillar.now) (parts x)) c.as_str-in-PillarGlob.ensures
+    carried c.pairs_meet-in-PillarGlob.result _ _ c.pairs_meet-in-PillarGlob.ensures (ap (λ x. map_meets (told_pairs a.pillar.now) (parts x)) c.as_str-in-PillarGlob.ensures.value
     ∙ sym (glob-holds c.in-PillarGlob.text a.pillar.now)
     ∙ sym (R.holds-PillarGlob c.in-PillarGlob.text a.id.now a.grains.now a.pillar.now) ∙ ap (λ x. holds (target_of x) a.id.now a.grains.now a.pillar.now) (sym c.in-PillarGlob.is))
 

@@ -33,7 +33,7 @@ returns-in-Or t c = λ grains pillar.
 pub returns-in-IdGlob : goal.returns-in-IdGlob
 returns-in-IdGlob t c = λ grains pillar.
     let id = c.args.id.now in
-    ap (λ b. Some b) (c.glob.ensures.value ∙ ap (λ x. glob x id) c.as_bytes.ensures) ∙ sym (R.decided-IdGlob c.in-IdGlob.text id grains pillar)
+    ap (λ b. Some b) (c.glob.ensures.exact ∙ ap (λ x. glob x id) c.as_bytes.ensures) ∙ sym (R.decided-IdGlob c.in-IdGlob.text id grains pillar)
     ∙ ap (λ x. decided (target_of x) id grains pillar) (sym c.in-IdGlob.is)
 
 pub returns-in-IdList : goal.returns-in-IdList

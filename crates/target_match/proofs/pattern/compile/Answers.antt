@@ -1,5 +1,5 @@
 use Rattle.std.proofs.Common.{refl}
-use Rattle.target_match.proofs.Reading.{readable, refused}
+use Rattle.target_match.proofs.Reading.{readable, refused, too_big}
 use Rattle.target_match.proofs.pattern.compile.Goals as goal
 
 pub returns-in-Ok-clause-readable : goal.returns-in-Ok-clause-readable
@@ -11,3 +11,8 @@ pub returns-in-Err-Syntax-clause-unreadable : goal.returns-in-Err-Syntax-clause-
 returns-in-Err-Syntax-clause-unreadable c =
     let made = c.in-Err-Syntax.ensures in
     (refl, refused _ _ (made.by_grammar _ c.in-Err-Syntax.field-0-is) (rw c.in-Err-Syntax.field-0-is at made.kind))
+
+pub returns-in-Err-CompiledTooBig-clause-unreadable : goal.returns-in-Err-CompiledTooBig-clause-unreadable
+returns-in-Err-CompiledTooBig-clause-unreadable c =
+    let made = c.in-Err-CompiledTooBig.ensures in
+    (refl, too_big _ (rw c.in-Err-CompiledTooBig.field-0-is at made.kind))

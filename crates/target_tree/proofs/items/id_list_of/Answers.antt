@@ -1,4 +1,6 @@
-use Rattle.std.proofs.Common.{[], ◌∙◌, rules, arith, lit<}
+use Rattle.std.proofs.Common.{◌≡◌, [], ◌∙◌, subst, rules, arith, lit<}
+use Rattle.std.specs.Prelude.{IfOk}
+use Rattle.target_tree.specs.declared.token.Token.{Token}
 use Rattle.std.proofs.lemmas.Str.Pattern.{split_parts}
 use Rattle.target_tree.specs.Words.{items_of, trimmed}
 use Rattle.target_tree.proofs.ItemList.{items-bad, items-good, next-item, last-item, one-more, last-more, all-more}
@@ -31,6 +33,8 @@ pub returns : goal.returns
 returns c =
     let none = rw c.in_default.is at (split_parts 44 c.loop-item.rest.now c.split_once.result c.split_once.ensures.cases (omega arith)) in
     let good = c.in-Some-id_of-2.ensures in
-    items-good c.args.text.now c.push-2.new.self
+    subst (λ (x : Token). IfOk c.leaf.result (λ t. t ≡ x))
+    (items-good c.args.text.now c.push-2.new.self
     (c.loop-item.invariant.1 ∙ last-more c.loop-item.ids c.loop-item.rest.now c.in-Some-id_of-2.id c.push-2.new.self none good.0 c.in_ok-push-2.ensures.ok)
-    (all-more c.loop-item.ids c.in-Some-id_of-2.id c.push-2.new.self c.loop-item.invariant.2 good.1 c.in_ok-push-2.ensures.ok)
+    (all-more c.loop-item.ids c.in-Some-id_of-2.id c.push-2.new.self c.loop-item.invariant.2 good.1 c.in_ok-push-2.ensures.ok))
+    c.leaf.ensures

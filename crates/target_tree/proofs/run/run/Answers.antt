@@ -1,4 +1,4 @@
-use Rattle.std.proofs.Common.{◌≡◌, ◌+◌, ◌-◌, ◌≤◌, ◌∷◌, length, rules, ap, ◌∙◌, sym, arith}
+use Rattle.std.proofs.Common.{◌≡◌, Ok, ◌+◌, ◌-◌, ◌≤◌, ◌∷◌, length, rules, ap, ◌∙◌, sym, arith}
 use Rattle.target_tree.specs.Words.{tokens_of}
 use Rattle.target_tree.specs.Machine.{Gives}
 use Rattle.target_tree.specs.Going.{Goes, going}
@@ -34,6 +34,7 @@ pub returns-in_default : goal.returns-in_default
 returns-in_default c =
     let i = c.loop-word.invariant in
     run-last c.args.groups.now c.loop-word.outers c.loop-word.reader c.loop-word.rest.now _ c.in_ok-ended-in-None.ended (tokens-none c.loop-word.rest.now c.in-None.ensures) i.3 (rw c.in_default.is at c.pop.ensures).0 c.in_ok-ended-in-None.ensures
+    ∙ ap Ok (sym c.into_inner.ensures)
 
 pub loop-word-preserved : goal.loop-word-preserved
 loop-word-preserved c =

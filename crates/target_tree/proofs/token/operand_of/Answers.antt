@@ -12,8 +12,10 @@ returns-then-has_paren c =
 
 pub returns-in_ok-to_text-in-None : goal.returns-in_ok-to_text-in-None
 returns-in_ok-to_text-in-None c =
-    ap (λ t. Leaf (IdGlob t)) c.in_ok-to_text-in-None.ensures
-    ∙ sym (operand-plain c.args.word.now c.in-None.ensures ∙ ap (λ (b : Bool). if b then NoLeaf else Leaf (IdGlob c.args.word.now)) (sym c.has_paren.ensures ∙ c.if-has_paren.false))
+    subst (λ (x : Token). IfOk c.leaf.result (λ t. t ≡ x))
+    (ap (λ t. Leaf (IdGlob t)) c.in_ok-to_text-in-None.ensures
+    ∙ sym (operand-plain c.args.word.now c.in-None.ensures ∙ ap (λ (b : Bool). if b then NoLeaf else Leaf (IdGlob c.args.word.now)) (sym c.has_paren.ensures ∙ c.if-has_paren.false)))
+    c.leaf.ensures
 
 pub returns-then-not-is_empty : goal.returns-then-not-is_empty
 returns-then-not-is_empty c =
