@@ -16,8 +16,8 @@ mod write;
 pub use fault::{AppendFault, CreateFault, LoadFault};
 pub use journal::Journal;
 pub use layout::{
-    CLOSED_GATE, FIRST_GATE, FRESH_LENGTH, GREATEST_LIMIT, HEADER_BYTES, LEAST_LIMIT, NAME, OPEN_GATE,
-    RECORD_OVERHEAD,
+    CLOSED_GATE, FIRST_GATE, FRESH_LENGTH, GREATEST_LIMIT, HEADER_BYTES, LEAST_LIMIT, NAME,
+    OPEN_GATE, RECORD_OVERHEAD,
 };
 pub use payload::{Payload, Payloads};
 pub use write::{header_bytes, record_bytes};

@@ -4,4 +4,6 @@
 #[cfg(test)]
 mod disk;
 #[cfg(test)]
+mod journal;
+#[cfg(test)]
 mod streams;
