@@ -1,4 +1,4 @@
-//! Tests of globs, targets and their matching, by public calls alone.
+//! Tests of targets and their matching, by public calls alone.
 #![tactic(auto)]
 
 #[cfg(test)]
