@@ -1,19 +1,20 @@
--- Faults by their counts.
-use Rattle.std.specs.Prelude.{◌≡◌, ℕ, ◌+◌, ◌-◌, ◌^◌, ◌≤◌, min, OnOk, Result, IsErrOf}
-use Rattle.salt_outside.specs.declared.causes.Outside.{Outside}
-use Rattle.salt_outside.specs.declared.causes.Outside.TheVariants.{Failed, NoMemory}
+-- The count of an object's faults, and when an answer may say that it failed.
+use Rattle.std.specs.Prelude.{◌≡◌, ℕ, ◌+◌, ◌-◌, ◌^◌, ◌≤◌, min}
 
--- a 64-bit count after one more, which stands still at the last value of its type
-abbrev pub raised : ℕ → ℕ
-raised count = min (count + 1) (2 ^ 64 - 1)
+-- the last value of a count of 64 bits
+abbrev pub last_count : ℕ
+last_count = 2 ^ 64 - 1
 
--- the count rose, or stands at the last value of its type
+-- the count after one fault more: it stands still at its last value
+abbrev pub next_count : ℕ → ℕ
+next_count count = min (count + 1) last_count
+
+-- the count rose, or stands at its last value
 abbrev pub Rose : ℕ → ℕ → Type 0
-Rose before now = raised before ≤ now
+Rose before now = next_count before ≤ now
 
--- The count never falls, `Failed` is answered only where it rose, and after every other answer it is as before.
-pub record HasCause {T : Type 0} (before now : ℕ) (result : Result T Outside) : Type 0 where
+-- The count rose where the answer says that the object failed, is as before after every other answer, and never falls.
+pub record CountsFaults (failed : Type 0) (before now : ℕ) : Type 0 where
+  pub rose : failed → Rose before now
+  pub kept : (failed → ⊥) → now ≡ before
   pub later : before ≤ now
-  pub failed : IsErrOf result Failed → Rose before now
-  pub kept : OnOk result (now ≡ before)
-  pub kept_memory : IsErrOf result NoMemory → now ≡ before

@@ -1,6 +1,6 @@
 -- What contracts see of the objects in memory.
 use Rattle.std.specs.Prelude.{ℕ, ◌↔◌, List, drop, Contains, Result, IsErrOf}
-use Rattle.salt_outside.specs.Causes.{raised}
+use Rattle.salt_outside.specs.Causes.{next_count}
 use Rattle.salt_outside.specs.declared.causes.Outside.{Outside}
 use Rattle.salt_outside.specs.declared.causes.Outside.TheVariants.{Failed}
 use Rattle.salt_outside.specs.declared.memory.MemSource.{MemSource}
@@ -40,4 +40,4 @@ sink_faults s = s.calls.faults
 
 -- The call after so many calls fails exactly where its number is listed.
 abbrev pub FailsWhereListed : {T : Type 0} → List ℕ → ℕ → Result T Outside → Type 0
-FailsWhereListed fails calls result = IsErrOf result Failed ↔ Contains fails (raised calls)
+FailsWhereListed fails calls result = IsErrOf result Failed ↔ Contains fails (next_count calls)

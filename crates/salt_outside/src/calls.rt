@@ -1,6 +1,7 @@
+//! Which calls on an object in memory fail.
 ghost use Rattle.std.specs.Prelude.{◌≡◌, ◌≤◌, ◌↔◌, IsTrue, Contains};
 ghost use Rattle.std.specs.Bool.{OnTrue, OnFalse};
-ghost use Rattle.salt_outside.specs.Causes.{raised};
+ghost use Rattle.salt_outside.specs.Causes.{next_count};
 
 /// The calls on one object in memory: how many were made, which of them fail, and how many did.
 #[derive(Drop)]
@@ -26,10 +27,10 @@ impl Calls {
 
     /// Whether the next call fails. It counts that call, and that fault.
     pub fn next_fails(&mut self) -> bool
-        ensures listed { IsTrue result ↔ Contains self.old.fails.items (raised self.old.made) }
+        ensures value { IsTrue result ↔ Contains self.old.fails.items (next_count self.old.made) }
         ensures fails { self.new.fails.items ≡ self.old.fails.items }
-        ensures made { self.new.made ≡ raised self.old.made }
-        ensures faults { OnTrue result (self.new.faults ≡ raised self.old.faults) }
+        ensures made { self.new.made ≡ next_count self.old.made }
+        ensures faults { OnTrue result (self.new.faults ≡ next_count self.old.faults) }
         ensures later { self.old.faults ≤ self.new.faults }
         ensures kept { OnFalse result (self.new.faults ≡ self.old.faults) }
     {

@@ -1,3 +1,4 @@
+//! Why a call gave no answer.
 use thiserror::Error;
 
 /// Why a call on the outside gave no answer.

@@ -1,3 +1,4 @@
+//! A source and a sink in memory, of which chosen calls fail.
 ghost use Rattle.std.specs.Prelude.{◌≡◌, ◌++◌, ◌<◌, ◌≤◌, ℕ, List, [], Option, Some, drop, length, take, min, IfOk, OnOk, OnErr, IsErrOf, IsOkUnless};
 ghost use Rattle.salt_outside.specs.Streams.{appended, preceded, IsPart, IsAtEnd};
 
@@ -34,26 +35,26 @@ impl MemSource {
 
 impl Source for MemSource {
     ghost use Rattle.salt_outside.specs.Memory.{source_left, source_fails, source_calls, source_faults, FailsWhereListed};
-    ghost use Rattle.salt_outside.specs.Causes.{raised, HasCause};
+    ghost use Rattle.salt_outside.specs.Causes.{next_count, CountsFaults};
 
     ghost left = { λ s. Some (drop s.at s.bytes.items) };
 
     ghost faults = { λ s. s.calls.faults };
 
     /// Reads as many bytes as there is room for, or as are left. It finds its memory always.
-    #[tactic(auto, using(crate::proofs::Faults::failed_cause, crate::proofs::Reading::none_left))]
+    #[tactic(auto, using(crate::proofs::Faults::counted, crate::proofs::Reading::none_left))]
     fn read(&mut self, into: &mut [u8]) -> Result<usize, Outside>
         requires { 0 < length into.old }
-        ensures within { IfOk result (λ count. count ≤ length into.new) }
-        ensures bytes { IfOk result (λ count. Some (source_left self.old) ≡ preceded (take count into.new) (Some (source_left self.new))) }
+        ensures ok { IfOk result (λ count. count ≤ length into.new) }
+        ensures count { IfOk result (λ count. count ≡ min (length into.old) (length (source_left self.old))) }
+        ensures left { IfOk result (λ count. Some (source_left self.old) ≡ preceded (take count into.new) (Some (source_left self.new))) }
         ensures end { IfOk result (λ count. count ≡ 0 → IsAtEnd (Some (source_left self.old))) }
-        ensures err { OnErr result (Some (source_left self.new) ≡ Some (source_left self.old)) }
-        ensures cause { HasCause (source_faults self.old) (source_faults self.new) result }
-        ensures most { IfOk result (λ count. count ≡ min (length into.old) (length (source_left self.old))) }
-        ensures listed { FailsWhereListed (source_fails self.old) (source_calls self.old) result }
-        ensures memory { IsOkUnless result Outside.Failed }
-        ensures calls { source_calls self.new ≡ raised (source_calls self.old) }
+        ensures calls { source_calls self.new ≡ next_count (source_calls self.old) }
         ensures fails { source_fails self.new ≡ source_fails self.old }
+        ensures faults { CountsFaults (IsErrOf result Outside.Failed) (source_faults self.old) (source_faults self.new) }
+        ensures err { OnErr result (Some (source_left self.new) ≡ Some (source_left self.old)) }
+        ensures failed { FailsWhereListed (source_fails self.old) (source_calls self.old) result }
+        ensures memory { IsOkUnless result Outside.Failed }
     {
         if self.calls.next_fails() {
             return Err(Outside::Failed);
@@ -91,7 +92,7 @@ impl MemSink {
 
     /// The bytes that were written.
     pub fn bytes(&self) -> &[u8]
-        ensures { result.now ≡ sink_held self.now }
+        ensures value { result.now ≡ sink_held self.now }
     {
         &self.bytes
     }
@@ -99,22 +100,22 @@ impl MemSink {
 
 impl Sink for MemSink {
     ghost use Rattle.salt_outside.specs.Memory.{sink_held, sink_fails, sink_calls, sink_faults, FailsWhereListed};
-    ghost use Rattle.salt_outside.specs.Causes.{raised, HasCause};
+    ghost use Rattle.salt_outside.specs.Causes.{next_count, CountsFaults};
 
     ghost held = { λ s. Some s.bytes.items };
 
     ghost faults = { λ s. s.calls.faults };
 
     /// Writes all the bytes. After an error none was written.
-    #[tactic(auto, using(crate::proofs::Parts::part_whole, crate::proofs::Parts::part_none, crate::proofs::Faults::failed_cause))]
+    #[tactic(auto, using(crate::proofs::Parts::part_whole, crate::proofs::Parts::part_none, crate::proofs::Faults::counted))]
     fn write(&mut self, bytes: &[u8]) -> Result<(), Outside>
         ensures ok { OnOk result (Some (sink_held self.new) ≡ appended (Some (sink_held self.old)) bytes.now) }
         ensures part { IsPart (Some (sink_held self.old)) (Some (sink_held self.new)) bytes.now }
-        ensures none { OnErr result (sink_held self.new ≡ sink_held self.old) }
-        ensures cause { HasCause (sink_faults self.old) (sink_faults self.new) result }
-        ensures listed { FailsWhereListed (sink_fails self.old) (sink_calls self.old) result }
-        ensures calls { sink_calls self.new ≡ raised (sink_calls self.old) }
+        ensures calls { sink_calls self.new ≡ next_count (sink_calls self.old) }
         ensures fails { sink_fails self.new ≡ sink_fails self.old }
+        ensures faults { CountsFaults (IsErrOf result Outside.Failed) (sink_faults self.old) (sink_faults self.new) }
+        ensures err { OnErr result (sink_held self.new ≡ sink_held self.old) }
+        ensures failed { FailsWhereListed (sink_fails self.old) (sink_calls self.old) result }
     {
         if self.calls.next_fails() {
             return Err(Outside::Failed);

@@ -1,6 +1,7 @@
-ghost use Rattle.std.specs.Prelude.{◌≡◌, ◌≤◌, ◌⊎◌, ℕ, length, IfOk, OnOk, IsErrOf};
+//! All that a source has left, up to a limit.
+ghost use Rattle.std.specs.Prelude.{◌≡◌, ◌≤◌, ℕ, length, IfOk, OnOk, IsErrOf};
 ghost use Rattle.salt_outside.specs.Streams.{preceded, HasMoreThan, HasAtMost, IsAtEnd, IsRest};
-ghost use Rattle.salt_outside.specs.Causes.{Rose};
+ghost use Rattle.salt_outside.specs.Causes.{CountsFaults};
 
 use crate::{Outside, Source};
 use std::alloc::Global;
@@ -28,20 +29,19 @@ pub enum ReadAll {
 /// After an error the bytes that were read are gone, and the source has left what comes after them.
 #[tactic(auto, using(crate::proofs::Parts::rest_one, crate::proofs::Parts::rest_two))]
 pub fn read_all<S: Source>(alloc: Global, source: &mut S, limit: usize) -> Result<Vec<u8>, ReadAll>
+    ensures ok { IfOk result (λ v. length v.items ≤ limit) }
     ensures bytes { IfOk result (λ v. S.left source.old ≡ preceded v.items (S.left source.new)) }
     ensures end { OnOk result (IsAtEnd (S.left source.new)) }
-    ensures within { IfOk result (λ v. length v.items ≤ limit) }
-    ensures front { IsRest (S.left source.old) (S.left source.new) }
+    ensures left { IsRest (S.left source.old) (S.left source.new) }
 
     // Over a source that tells: Ok only where at most `limit` bytes were left, TooLong only where more were. So each
     // comes exactly where it should, but for faults and want of memory.
     ensures fits { OnOk result (HasAtMost limit (S.left source.old)) }
     ensures too_long { IsErrOf result (ReadAll.TooLong limit) → HasMoreThan limit (S.left source.old) }
-    ensures limit_is { (n : ℕ) → IsErrOf result (ReadAll.TooLong n) → n ≡ limit }
+    ensures limit { (n : ℕ) → IsErrOf result (ReadAll.TooLong n) → n ≡ limit }
 
-    ensures fault { IsErrOf result ReadAll.ReadFault → Rose (S.faults source.old) (S.faults source.new) }
-    ensures later { S.faults source.old ≤ S.faults source.new }
-    ensures kept { (S.faults source.new ≡ S.faults source.old) ⊎ IsErrOf result ReadAll.ReadFault }
+    // The answer is ReadFault exactly where the source failed. After want of memory and TooLong its count is as before.
+    ensures faults { CountsFaults (IsErrOf result ReadAll.ReadFault) (S.faults source.old) (S.faults source.new) }
 {
     let mut bytes = Vec::new(alloc);
     let mut piece = [0; PIECE];

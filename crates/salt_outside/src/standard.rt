@@ -1,6 +1,7 @@
-ghost use Rattle.std.specs.Prelude.{◌≡◌, ◌<◌, ◌≤◌, ℕ, length, take, None, IfOk, OnOk, OnErr, IsOkUnless, Option, List};
+//! A source over a reader of std, and a sink over a writer.
+ghost use Rattle.std.specs.Prelude.{◌≡◌, ◌<◌, ◌≤◌, ℕ, length, take, None, IfOk, OnOk, IsErrOf, IsOkUnless};
 ghost use Rattle.std.specs.Io.KnownBytes.{Appends, ReadConsumes};
-ghost use Rattle.salt_outside.specs.Causes.{raised};
+ghost use Rattle.salt_outside.specs.Causes.{next_count};
 ghost use Rattle.salt_outside.specs.Written.{AppendsPart};
 
 use crate::{Outside, Sink, Source};
@@ -27,7 +28,7 @@ impl<R: Read + Drop> StdSource<R> {
 }
 
 impl<R: Read + Drop> Source for StdSource<R> {
-    ghost use Rattle.salt_outside.specs.Causes.{HasCause};
+    ghost use Rattle.salt_outside.specs.Causes.{CountsFaults};
     ghost use Rattle.salt_outside.specs.Standard.{reader, reader_faults};
 
     ghost left = { λ _. None };
@@ -35,11 +36,11 @@ impl<R: Read + Drop> Source for StdSource<R> {
     ghost faults = { λ s. s.faults };
 
     /// Each error of the reader is a fault, an interrupted read and want of memory too.
-    #[tactic(auto, using(crate::proofs::Faults::failed_cause))]
+    #[tactic(auto, using(crate::proofs::Faults::counted))]
     fn read(&mut self, into: &mut [u8]) -> Result<usize, Outside>
         requires { 0 < length into.old }
-        ensures within { IfOk result (λ count. count ≤ length into.new) }
-        ensures cause { HasCause (reader_faults self.old) (reader_faults self.new) result }
+        ensures ok { IfOk result (λ count. count ≤ length into.new) }
+        ensures faults { CountsFaults (IsErrOf result Outside.Failed) (reader_faults self.old) (reader_faults self.new) }
         ensures memory { IsOkUnless result Outside.Failed }
         ensures known { ReadConsumes (R.remaining (reader self.old)) (R.remaining (reader self.new)) result into.new }
     {
@@ -70,7 +71,7 @@ impl<W: Write + Drop> StdSink<W> {
 }
 
 impl<W: Write + Drop> Sink for StdSink<W> {
-    ghost use Rattle.salt_outside.specs.Causes.{HasCause};
+    ghost use Rattle.salt_outside.specs.Causes.{CountsFaults};
     ghost use Rattle.salt_outside.specs.Standard.{writer, writer_faults};
 
     ghost held = { λ _. None };
@@ -79,9 +80,9 @@ impl<W: Write + Drop> Sink for StdSink<W> {
 
     /// Writes all the bytes and flushes. Each error of the writer is a fault, an interrupted write and want of memory
     /// too, and so is a write that takes nothing.
-    #[tactic(auto, using(crate::proofs::Faults::failed_cause))]
+    #[tactic(auto, using(crate::proofs::Faults::counted))]
     fn write(&mut self, bytes: &[u8]) -> Result<(), Outside>
-        ensures cause { HasCause (writer_faults self.old) (writer_faults self.new) result }
+        ensures faults { CountsFaults (IsErrOf result Outside.Failed) (writer_faults self.old) (writer_faults self.new) }
         ensures memory { IsOkUnless result Outside.Failed }
         ensures known { OnOk result (Appends (W.contents (writer self.old)) (W.contents (writer self.new)) bytes.now) }
         ensures known_part { AppendsPart (W.contents (writer self.old)) (W.contents (writer self.new)) bytes.now }
@@ -95,8 +96,8 @@ impl<W: Write + Drop> Sink for StdSink<W> {
 
 /// Counts a fault, and answers it.
 fn count_fault(faults: &mut u64) -> Outside
-    ensures failed { result ≡ Outside.Failed }
-    ensures raised { faults.new ≡ raised faults.old }
+    ensures value { result ≡ Outside.Failed }
+    ensures count { faults.new ≡ next_count faults.old }
     ensures later { faults.old ≤ faults.new }
 {
     *faults = faults.saturating_add(1);

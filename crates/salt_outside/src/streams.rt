@@ -1,3 +1,4 @@
+//! What a source and a sink are, as standard input and standard output are.
 ghost use Rattle.std.specs.Prelude.{◌≡◌, ◌<◌, ◌≤◌, ℕ, List, Option, length, take, IfOk, OnOk, OnErr, IsErrOf};
 ghost use Rattle.salt_outside.specs.Streams.{appended, preceded, IsPart, IsAtEnd};
 
@@ -5,7 +6,7 @@ use crate::Outside;
 
 /// Where bytes come from, as standard input.
 pub trait Source {
-    ghost use Rattle.salt_outside.specs.Causes.{HasCause};
+    ghost use Rattle.salt_outside.specs.Causes.{CountsFaults};
 
     /// The bytes that it has left. None where it doesn't tell.
     ghost left: { Self → Option (List ℕ) };
@@ -18,17 +19,16 @@ pub trait Source {
     /// After an error nothing was read: the source has left what it had.
     fn read(&mut self, into: &mut [u8]) -> Result<usize, Outside>
         requires { 0 < length into.old }
-        ensures within { IfOk result (λ count. count ≤ length into.new) }
-        ensures bytes { IfOk result (λ count. left self.old ≡ preceded (take count into.new) (left self.new)) }
+        ensures ok { IfOk result (λ count. count ≤ length into.new) }
+        ensures left { IfOk result (λ count. left self.old ≡ preceded (take count into.new) (left self.new)) }
         ensures end { IfOk result (λ count. count ≡ 0 → IsAtEnd (left self.old)) }
         ensures err { OnErr result (left self.new ≡ left self.old) }
-        ensures cause { HasCause (faults self.old) (faults self.new) result };
+        ensures faults { CountsFaults (IsErrOf result Outside.Failed) (faults self.old) (faults self.new) };
 }
 
 /// Where bytes go, as standard output.
 pub trait Sink {
-    ghost use Rattle.salt_outside.specs.Causes.{HasCause};
-    ghost use Rattle.salt_outside.specs.declared.causes.Outside.TheVariants.{NoMemory};
+    ghost use Rattle.salt_outside.specs.Causes.{CountsFaults};
 
     /// The bytes that it holds. None where it doesn't tell.
     ghost held: { Self → Option (List ℕ) };
@@ -42,6 +42,6 @@ pub trait Sink {
     fn write(&mut self, bytes: &[u8]) -> Result<(), Outside>
         ensures ok { OnOk result (held self.new ≡ appended (held self.old) bytes.now) }
         ensures part { IsPart (held self.old) (held self.new) bytes.now }
-        ensures none { IsErrOf result NoMemory → held self.new ≡ held self.old }
-        ensures cause { HasCause (faults self.old) (faults self.new) result };
+        ensures faults { CountsFaults (IsErrOf result Outside.Failed) (faults self.old) (faults self.new) }
+        ensures memory { IsErrOf result Outside.NoMemory → held self.new ≡ held self.old };
 }
