@@ -7,7 +7,7 @@ use Rattle.node_core.specs.declared.record.Record.TheVariants as r
 use Rattle.node_core.specs.declared.message.Message.{Message}
 use Rattle.node_core.specs.declared.faults.PublishFault.{PublishFault}
 use Rattle.node_core.specs.Records.{jobs}
-use Rattle.node_core.specs.Node.{NodeState, Answer, first_node, with_record, taken, pending, publication}
+use Rattle.node_core.specs.Node.{NodeState, Answer, Taken, first_node, with_record, taken, pending, publication}
 use Rattle.node_core.specs.Node.Answer.{IsStray, Silent, Reply}
 use Rattle.tree_world.specs.Packets.{Packet}
 use Rattle.fleet_turns.specs.declared.turn.Turn.{Turn}
@@ -76,10 +76,14 @@ abbrev pub replied : Packet → Option Message → List Packet → List Packet
 replied p None packets = packets
 replied p (Some message) packets = packets ++ packet p.to p.from message ∷ []
 
--- the receiver takes a packet
+-- what the receiver of a packet does with it
+abbrev pub reception : FleetConfig → List NodeState → Packet → Taken
+reception f nodes p = taken f.tree p.to p.from p.message (node_at nodes p.to)
+
+-- the network after the receiver took a packet
 abbrev pub received : FleetConfig → Network → Packet → Network
 received f w p =
-    let t = taken f.tree p.to p.from p.message (node_at w.nodes p.to) in
+    let t = reception f w.nodes p in
     record w { nodes = slice_set w.nodes p.to t.node; packets = with_reply p t.answer w.packets }
 
 -- a packet that is not there, or goes to no node, does nothing

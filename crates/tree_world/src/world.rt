@@ -1,7 +1,7 @@
 //! The network of a fleet, and its turns.
 ghost use Rattle.std.specs.Prelude.{◌≡◌, ◌<◌, ◌++◌, ◌^◌, List, All, slice_set, length, map, take, true, IfOk, IfSome, OnOk, IsErrOf};
-ghost use Rattle.node_core.specs.Node.{first_node, pending, taken, is_neighbour, IsCounted};
-ghost use Rattle.tree_world.specs.Network.{node_at, with_reply, replied};
+ghost use Rattle.node_core.specs.Node.{first_node, pending, is_neighbour, IsCounted};
+ghost use Rattle.tree_world.specs.Network.{node_at, reception, with_reply, replied};
 ghost use Rattle.tree_world.specs.Packets.{Packet};
 ghost use Rattle.tree_world.specs.Network as network;
 ghost use Rattle.salt_outside.specs.Causes.{CountsFaults};
@@ -220,8 +220,8 @@ fn take_packet(
 ) -> Result<Option<Message>, AllocError>
     requires node { packet.now.to < length nodes.old.items }
     requires nodes { length nodes.old.items ≡ length fleet.now.tree }
-    ensures nodes { OnOk result (nodes.new.items ≡ slice_set nodes.old.items packet.now.to (taken fleet.now.tree packet.now.to packet.now.from packet.now.message (node_at nodes.old.items packet.now.to)).node) }
-    ensures reply { IfOk result (λ reply. (packets : List Packet) → with_reply packet.now (taken fleet.now.tree packet.now.to packet.now.from packet.now.message (node_at nodes.old.items packet.now.to)).answer packets ≡ replied packet.now reply packets) }
+    ensures nodes { OnOk result (nodes.new.items ≡ slice_set nodes.old.items packet.now.to (reception fleet.now nodes.old.items packet.now).node) }
+    ensures reply { IfOk result (λ reply. (packets : List Packet) → with_reply packet.now (reception fleet.now nodes.old.items packet.now).answer packets ≡ replied packet.now reply packets) }
     ensures count { length nodes.new.items ≡ length nodes.old.items }
     ensures counted { IfOk result (λ reply. IfSome reply IsCounted) }
 {
