@@ -196,15 +196,14 @@ fn read_send(
     requires line { line.now ≡ codes "send " ++ rest.now }
     ensures { IfOk result (Decodes (MayStand (fleet_by ids.now.keys)) (turn_line (fleet_by ids.now.keys)) line.now) }
 {
-    match read_sending(alloc, ids, rest)? {
-        Some((from, (to, count))) => {
-            if are_neighbours(from, to) {
-                Ok(Some(Turn::Send { from, to, count }))
-            } else {
-                Ok(None)
-            }
-        }
-        None => Ok(None),
+    let Some(sending) = read_sending(alloc, ids, rest)? else {
+        return Ok(None);
+    };
+    let (from, (to, count)) = sending;
+    if are_neighbours(from, to) {
+        Ok(Some(Turn::Send { from, to, count }))
+    } else {
+        Ok(None)
     }
 }
 

@@ -4,21 +4,21 @@ use Rattle.script_text.proofs.turns.read_sending.Goals as goal
 pub returns-in_default : goal.returns-in_default
 returns-in_default c = no_sender c.args.ids.now.keys c.requires c.args.text.now (c.in_default.ensures {u = tt}).none
 
-pub returns-in_default-2 : goal.returns-in_default-2
-returns-in_default-2 c =
+pub returns-in_default-read_node : goal.returns-in_default-read_node
+returns-in_default-read_node c =
     let from = (c.in-Some.ensures {u = tt}).some in
-    no_receiver c.args.ids.now.keys c.requires c.in-Some.from.0 c.args.text.now c.in-Some.from.1.now from.0 from.1 (c.in_default-2.ensures {u = tt}).none
+    no_receiver c.args.ids.now.keys c.requires c.in-Some.from.0 c.args.text.now c.in-Some.from.1.now from.0 from.1 (c.in_default-read_node.ensures {u = tt}).none
 
-pub returns-in-Some-3 : goal.returns-in-Some-3
-returns-in-Some-3 c =
+pub returns-in-Some-2 : goal.returns-in-Some-2
+returns-in-Some-2 c =
     let from = (c.in-Some.ensures {u = tt}).some in
-    let to = (c.in-Some-2.ensures {u = tt}).some in
-    sending_found c.args.ids.now.keys c.requires c.in-Some.from.0 c.in-Some-2.to.0 c.in-Some-3.count c.args.text.now c.in-Some.from.1.now c.in-Some-2.to.1.now
-    from.0 from.1 to.0 to.1 (rw c.in-Some-3.is at (c.in_ok-count.ensures {u = tt}))
+    let to = (c.in-Some-read_node.ensures {u = tt}).some in
+    sending_found c.args.ids.now.keys c.requires c.in-Some.from.0 c.in-Some-read_node.to.0 c.in-Some-2.count c.args.text.now c.in-Some.from.1.now c.in-Some-read_node.to.1.now
+    from.0 from.1 to.0 to.1 (rw c.in-Some-2.is at (c.in_ok-count.ensures {u = tt}))
 
 pub returns-in-None : goal.returns-in-None
 returns-in-None c =
     let from = (c.in-Some.ensures {u = tt}).some in
-    let to = (c.in-Some-2.ensures {u = tt}).some in
-    no_count c.args.ids.now.keys c.requires c.in-Some.from.0 c.in-Some-2.to.0 c.args.text.now c.in-Some.from.1.now c.in-Some-2.to.1.now
+    let to = (c.in-Some-read_node.ensures {u = tt}).some in
+    no_count c.args.ids.now.keys c.requires c.in-Some.from.0 c.in-Some-read_node.to.0 c.args.text.now c.in-Some.from.1.now c.in-Some-read_node.to.1.now
     from.0 from.1 to.0 to.1 (rw c.in-None.is at (c.in_ok-count.ensures {u = tt}))
