@@ -1,4 +1,5 @@
 pub mod Walk
+pub mod Trees
 pub mod Places
 pub mod Fleets
 pub mod Owns

@@ -5,12 +5,13 @@ use Rattle.std.proofs.lemmas.Map.Keys.{IsDistinct-head, IsDistinct-tail}
 use Rattle.std.proofs.lemmas.Slice.Eq.{bytes_eq-Decides}
 use Rattle.std.proofs.lemmas.Iterator.Adapters.{position_from-zero}
 use Rattle.fleet_config.specs.declared.fleet.Member.{Member}
+use Rattle.fleet_config.specs.Tree.{Tree}
 
 pub same_some : {X : Type 0} (a b : X) → Some a ≡ Some b → a ≡ b
 same_some {X} a b e = ap (λ (o : Option X). unwrap_or o a) e
 
 -- a fact of all ids holds of each
-pub at_each : (P : List ℕ → Type 0) (ms : List Member) (i : ℕ) (x : Member) → slice_get ms i ≡ Some x → AllByRecursion P (map (λ (m : Member). m.id) ms) → P x.id
+pub at_each : (P : List ℕ → Type 0) (ms : Tree) (i : ℕ) (x : Member) → slice_get ms i ≡ Some x → AllByRecursion P (map (λ (m : Member). m.id) ms) → P x.id
 at_each P [] i x e h = absurd (cc)
 at_each P (m ∷ ms) zero x e h = subst (λ (y : Member). P y.id) (same_some m x e) h.0
 at_each P (m ∷ ms) (suc i) x e h = at_each P ms i x e h.1
@@ -37,7 +38,7 @@ place_case k n m x q long short rest apart true e =
     rw (e, other) refl
 
 -- the place in a list with one node more
-pub place_from : (k : ℕ) (ms : List Member) (i : ℕ) (q : List ℕ) (x : Member) → slice_get ms i ≡ Some x
+pub place_from : (k : ℕ) (ms : Tree) (i : ℕ) (q : List ℕ) (x : Member) → slice_get ms i ≡ Some x
     → IsDistinct bytes_eq (map (λ (m : Member). m.id) ms)
     → position_from (λ (m : Member). bytes_eq m.id q) k (take (suc i) ms) ≡ cond (bytes_eq x.id q) (Some (k + i)) (position_from (λ (m : Member). bytes_eq m.id q) k (take i ms))
 place_from k [] i q x e d = absurd (cc)
@@ -53,7 +54,7 @@ place_from k (m ∷ ms) (suc i) q x e d =
     place_case k (k + suc i) m x q (position_from (λ (y : Member). bytes_eq y.id q) (k + 1) (take (suc i) ms)) (position_from (λ (y : Member). bytes_eq y.id q) (k + 1) (take i ms)) told apart (bytes_eq m.id q) refl
 
 -- the same from the first place on
-pub place_more : (ms : List Member) (i : ℕ) (q : List ℕ) (x : Member) → slice_get ms i ≡ Some x
+pub place_more : (ms : Tree) (i : ℕ) (q : List ℕ) (x : Member) → slice_get ms i ≡ Some x
     → IsDistinct bytes_eq (map (λ (m : Member). m.id) ms)
     → position (λ (m : Member). bytes_eq m.id q) (take (i + 1) ms) ≡ cond (bytes_eq x.id q) (Some i) (position (λ (m : Member). bytes_eq m.id q) (take i ms))
 place_more ms i q x e d =
