@@ -3,7 +3,8 @@ use script_text::{MOST_SCRIPT_BYTES, read_script};
 use std::alloc::{AllocError, Global};
 
 /// The lines of a fleet of the minions m1 and m2, and `%schedule`.
-const PAIR: &str = "%fleet|nodes:|- id: top|  role: top|- id: m1|  role: minion|  parent: top|- id: m2|  role: minion|  parent: top|%schedule|";
+const PAIR: &str =
+    "%fleet|nodes:|- id: top|  role: top|- id: m1|  role: minion|  parent: top|- id: m2|  role: minion|  parent: top|%schedule|";
 
 /// How many turns and minions a script has whose lines are parted by `|`. After the word `pair` there are the lines alone that
 /// follow those of a fleet of two minions.
@@ -24,7 +25,11 @@ fn counts(alloc: Global, text: &[u8]) -> Result<String, AllocError> {
         return String::from_str(alloc, "too long");
     }
     match read_script(alloc, text) {
-        Ok(script) => format!(in alloc; "turns {}, minions {}", script.turns.len(), script.minions.len()),
+        Ok(script) => format!(in alloc;
+            "turns {}, minions {}",
+            script.turns.len(),
+            script.minions.len()
+        ),
         Err(fault) => format!(in alloc; "{fault:?}"),
     }
 }
