@@ -14,9 +14,9 @@ use Rattle.node_core.specs.Node.Answer.{IsStray}
 use Rattle.tree_world.specs.Packets.{Packet}
 use Rattle.tree_world.specs.Network.{Network, node_at, top_jobs}
 use Rattle.tree_laws.specs.Laws.{IsPrefixOfParent, ActedOnce, AreJobsInOrder, NamesHeldJobs, IsTaken, outcome_at, flat_outcome, IsOutcomeFlat, IsReportFlat, IsReportSoFar, has_returned}
-use Rattle.tree_world.specs.Report.{row_of, report, flat_report, by_id, placed, place_for}
+use Rattle.tree_world.specs.Report.{row_of, report, flat_report, by_id}
 use Rattle.node_core.specs.declared.job.Row.{Row}
-use Rattle.std.specs.List.{All, Contains, filter_map, fold, cons_option}
+use Rattle.std.specs.List.{All, Contains, filter_map, cons_option}
 use Rattle.std.proofs.lemmas.List.Elements.{All-nil, All-cons, All-weaker, All-same, All-filter, All-contains_itself, recursion_from_All, All-from_recursion, All-append, All-take, All-drop}
 use Rattle.tree_laws.specs.Lists.{IsPrefix}
 use Rattle.tree_laws.specs.Invariant.{IsSent, Names, IsPair, Holds}
@@ -25,6 +25,7 @@ use Rattle.tree_laws.proofs.Trees.{branch_in, parent_before, parent_test, minion
 use Rattle.tree_laws.proofs.Calls.{took, FitsReply}
 use Rattle.tree_laws.proofs.Turns.{minions_in}
 use Rattle.tree_laws.proofs.Places.{IsMinionIn}
+use Rattle.tree_laws.proofs.Rows.{by_id_all}
 use Rattle.tree_laws.proofs.Chains.{chain, acts_flat, acts_without, return_prefix, return_acts}
 
 pub prefix_law : (f : Tree) (w : Network) (c : ℕ) → IsTree f → Holds f w → 0 < c → c < length f → IsPrefixOfParent f w c
@@ -76,17 +77,8 @@ outcome_law f w p m seq o fleet h up z i e =
     ap (return_of seq) (sym a.entries) ∙ return_acts seq (log id (node_at w.nodes m).records) ∙ own in
     return_prefix seq o _ _ (flat_take (jobs_held (node_at w.nodes m).records) id (top_jobs w)) mine
 
--- a list in another order has the same elements
-all_placed : (f : Tree) (P : ℕ → Type 0) (order : List ℕ) (m : ℕ) → All P order → P m → All P (placed f order m)
-all_placed f P order m h x =
-    All-append P (take (place_for f m order) order) (m ∷ drop (place_for f m order) order) (All-take P (place_for f m order) order h) (All-cons P m (drop (place_for f m order) order) x (All-drop P (place_for f m order) order h))
-
-all_by_id : (f : Tree) (P : ℕ → Type 0) (ms order : List ℕ) → AllByRecursion P ms → All P order → All P (fold (placed f) order ms)
-all_by_id f P [] order h g = g
-all_by_id f P (m ∷ ms) order h g = all_by_id f P ms (placed f order m) h.1 (all_placed f P order m g h.0)
-
 minions_by_id : (f : Tree) → All (IsMinionIn f 0) (by_id f (minions f 0))
-minions_by_id f = all_by_id f (IsMinionIn f 0) (minions f 0) [] (minions_in f 0) (All-nil (IsMinionIn f 0))
+minions_by_id f = by_id_all f (IsMinionIn f 0) (minions f 0) (All-from_recursion (IsMinionIn f 0) (minions f 0) (minions_in f 0))
 
 -- what one gives, the other gives too
 abbrev Keeps : Tree → (List ℕ → Option Outcome) → (List ℕ → Option Outcome) → ℕ → Type 0

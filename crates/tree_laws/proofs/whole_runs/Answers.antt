@@ -9,6 +9,7 @@ use Rattle.tree_laws.specs.Laws.{network_after, IsReportFlat}
 use Rattle.tree_laws.proofs.Lists.{prefix_same}
 use Rattle.tree_laws.proofs.Turns.{run_holds, start_holds}
 use Rattle.tree_laws.proofs.Laws.{prefix_law, jobs_law, names_law, packets_law, acted_law, outcomes_law, report_law, so_far_law, none_stray_law}
+use Rattle.tree_laws.proofs.Rows.{flat_rows, rows_ascend}
 use Rattle.tree_laws.proofs.Grows.{run_grows, top_grows}
 use Rattle.tree_laws.proofs.Runs.{after_append, all_front}
 use Rattle.tree_laws.proofs.whole_runs.Goals as goal
@@ -30,6 +31,8 @@ returns c = record {
       subst (λ (w : Network). IsReportFlat f.tree (top_jobs w) (network_after f turns) seq) (sym (after_append f turns later (start f)))
       (report_law f.tree (network_after f turns) _ seq fleet.tree (holds f turns fleet all) (top_grows f later (network_after f turns)));
   reports_so_far = λ f turns seq fleet all. so_far_law f.tree (network_after f turns) (top_jobs (network_after f turns)) seq fleet.tree (holds f turns fleet all) (prefix_same (top_jobs (network_after f turns)));
+  flat_rows = λ f jobs seq fleet. flat_rows f.tree jobs seq fleet.tree;
+  rows_ascend = λ f outcome fleet. rows_ascend f.tree outcome fleet.tree;
   none_stray = λ f turns fleet all. none_stray_law f.tree (network_after f turns) fleet.tree (holds f turns fleet all);
   grows = run_grows;
   after_append = after_append;
