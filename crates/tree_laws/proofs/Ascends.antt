@@ -165,11 +165,12 @@ module _ {X : Type 0} (lt : X → X → Bool) (o : IsStrictWeakOrder lt) (ms : L
       let h = parts_pairs n up in
       let xs : List X = parts count ms n in
       let ys : List X = part count ms n in
-      subst (AreParts (suc n)) (sym (parts_next count ms n))
-      (pairs_join (λ x y. lt x y ≡ true) xs ys h.0 (part_pairs n up)
-      (all_imply_in (λ x. count x < n) (λ x. count x < n) (λ x. AllByRecursion (λ y. lt x y ≡ true) ys) (λ x l m. all_under x n ys l (in_part n)) xs h.1 h.1),
-      all_both (λ x. count x < suc n) xs ys (all_imply_in (λ x. count x < n) (λ x. count x < n) (λ x. count x < suc n) (λ x l m. omega arith) xs h.1 h.1)
-      (all_imply_in (λ x. Contains ms x × (count x ≡ n)) (λ x. Contains ms x × (count x ≡ n)) (λ x. count x < suc n) (λ x a b. let e = a.1 in omega arith) ys (in_part n) (in_part n)))
+      subst (AreParts (suc n)) (sym (parts_next count ms n)) (
+        pairs_join (λ x y. lt x y ≡ true) xs ys h.0 (part_pairs n up)
+            (all_imply_in (λ x. count x < n) (λ x. count x < n) (λ x. AllByRecursion (λ y. lt x y ≡ true) ys) (λ x l m. all_under x n ys l (in_part n)) xs h.1 h.1),
+        all_both (λ x. count x < suc n) xs ys (all_imply_in (λ x. count x < n) (λ x. count x < n) (λ x. count x < suc n) (λ x l m. omega arith) xs h.1 h.1)
+            (all_imply_in (λ x. Contains ms x × (count x ≡ n)) (λ x. Contains ms x × (count x ≡ n)) (λ x. count x < suc n) (λ x a b. let e = a.1 in omega arith) ys (in_part n) (in_part n)),
+      )
 
   pub ordered_ascends : Pairs N ms → Pairs (λ x y. lt x y ≡ true) (ordered lt o ms)
   ordered_ascends up = (parts_pairs (length ms) up).0

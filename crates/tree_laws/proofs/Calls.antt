@@ -18,7 +18,8 @@ use Rattle.fleet_config.specs.Tree.{Tree, id_of, parent_of, is_minion, is_parent
 use Rattle.node_core.specs.Flat.{is_rising}
 use Rattle.node_core.specs.Records.{jobs, jobs_held, count_in, log}
 use Rattle.node_core.specs.Counts.{raised}
-use Rattle.node_core.specs.Node.{NodeState, Answer, with_record, taken_in, after_pub, after_up, accepted, is_neighbour, may_take, is_below, is_here, is_next, may_record, names_held, first_cause, stray_of, taken_by, taken}
+use Rattle.node_core.specs.Node.{NodeState, Answer, with_record, taken_in, after_pub, after_up, accepted, is_neighbour, may_take, is_below, is_here, is_next, may_record, names_held, stray_of, taken_by, taken}
+use Rattle.fleet_config.specs.Causes.{first_cause}
 use Rattle.node_core.specs.Node.Answer.{IsStray, Silent, Reply}
 use Rattle.tree_world.specs.Packets.{Packet}
 use Rattle.tree_world.specs.Network.{Network, node_at, with_node, with_packets, packet, with_reply, received}

@@ -17,7 +17,7 @@ use Rattle.tree_laws.specs.Laws.{IsPrefixOfParent, ActedOnce, AreJobsInOrder, Na
 use Rattle.tree_world.specs.Report.{row_of, report, flat_report, by_id}
 use Rattle.node_core.specs.declared.job.Row.{Row}
 use Rattle.std.specs.List.{All, Contains, filter_map, cons_option}
-use Rattle.std.proofs.lemmas.List.Elements.{All-nil, All-cons, All-weaker, All-same, All-filter, All-contains_itself, recursion_from_All, All-from_recursion, All-append, All-take, All-drop}
+use Rattle.std.proofs.lemmas.List.Elements.{All-weaker, All-same, All-filter, All-contains_itself, recursion_from_All, All-from_recursion}
 use Rattle.tree_laws.specs.Lists.{IsPrefix}
 use Rattle.tree_laws.specs.Invariant.{IsSent, Names, IsPair, Holds}
 use Rattle.tree_laws.proofs.Lists.{prefix_both, all_imply}

@@ -130,14 +130,13 @@ pub flat_rows : (t : Tree) (jobs : List Job) (seq : ℕ) → IsTree t → HasFla
 flat_rows t jobs seq h row =
     let ms : List ℕ = minions t 0 in
     let out : ℕ → Option Outcome = λ m. flat_outcome t jobs m seq in
-    let P : ℕ → Type 0 = λ m. (r : Row) → row_of (id_of t m) (out m) ≡ Some r → IsFlatRow t jobs seq r in
-    (
+    let P : ℕ → Type 0 = λ m. (r : Row) → row_of (id_of t m) (out m) ≡ Some r → IsFlatRow t jobs seq r in (
       (λ there. All-contains (IsFlatRow t jobs seq) (flat_report t jobs seq) row
-      (map_all (λ m. row_of (id_of t m) (out m)) (IsFlatRow t jobs seq) (by_id t ms)
-      (recursion_from_All P (by_id t ms)
-      (All-weaker (λ m. is_minion t m ≡ true) P (λ m z r e. let is = row_is (id_of t m) (out m) r e in (m, z, is.0, is.1)) (by_id t ms)
-      (by_id_all t (λ m. is_minion t m ≡ true) ms (all_minions t))))) there),
+          (map_all (λ m. row_of (id_of t m) (out m)) (IsFlatRow t jobs seq) (by_id t ms)
+          (recursion_from_All P (by_id t ms)
+          (All-weaker (λ m. is_minion t m ≡ true) P (λ m z r e. let is = row_is (id_of t m) (out m) r e in (m, z, is.0, is.1)) (by_id t ms)
+          (by_id_all t (λ m. is_minion t m ≡ true) ms (all_minions t))))) there),
       (λ is. map_has (λ m. row_of (id_of t m) (out m)) (by_id t ms) is.0 row
-      (ordered_has (Before t) (is_order t) ms (λ x y. x < y) (never_tied t h) is.0 (minion_there t is.0 h is.1))
-      (row_back (id_of t is.0) (out is.0) row is.2 is.3)),
+          (ordered_has (Before t) (is_order t) ms (λ x y. x < y) (never_tied t h) is.0 (minion_there t is.0 h is.1))
+          (row_back (id_of t is.0) (out is.0) row is.2 is.3)),
     )
