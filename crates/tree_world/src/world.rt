@@ -7,7 +7,7 @@ ghost use Rattle.tree_world.specs.Network as network;
 ghost use Rattle.salt_outside.specs.Causes.{CountsFaults};
 ghost use Rattle.salt_outside.specs.Streams.{appended, IsPart};
 
-use crate::report::{by_id, rows_of};
+use crate::report::{rows_of, sort_by_id};
 use crate::text::{missing_text, number_of, packet_text, publish_text, rows_text, unknown_text};
 use crate::Packet;
 use fleet_config::Fleet;
@@ -77,8 +77,8 @@ impl World {
         requires { 0 < length fleet.tree }
         ensures { IfOk result (λ world. world ≡ system fleet) }
     {
-        let minions = fleet.minions(alloc, NodeId::TOP)?;
-        let order = by_id(alloc, &fleet, &minions)?;
+        let mut order = fleet.minions(alloc, NodeId::TOP)?;
+        sort_by_id(&fleet, &mut order)?;
         let nodes = first_nodes(alloc, &fleet)?;
         Ok(World {
             alloc,
