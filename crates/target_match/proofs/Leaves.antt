@@ -111,10 +111,10 @@ fault_right left right first next (BadPattern leaf) a n h = (length left + h.0, 
 fault_right left right first next (TooBig leaf) a n h = (length left + h.0, some_before leaf first next (length left) h.0 n h.1, big_right left right h.0 (length left + h.0) refl a h.2)
 
 pub bad_whole : (leaves : Leaves) (leaf : ℕ) → IsFaultOf leaves 0 (BadPattern leaf) → IsToldAs leaf (IsBadAt leaves)
-bad_whole leaves leaf h = h
+bad_whole leaves leaf h = let same : 0 + h.0 ≡ h.0 = omega arith in (h.0, h.1 ∙ ap leaf_count same, h.2)
 
 pub big_whole : (leaves : Leaves) (leaf : ℕ) → IsFaultOf leaves 0 (TooBig leaf) → IsToldAs leaf (IsBigAt leaves)
-big_whole leaves leaf h = h
+big_whole leaves leaf h = let same : 0 + h.0 ≡ h.0 = omega arith in (h.0, h.1 ∙ ap leaf_count same, h.2)
 
 -- what `?` hands on
 pub handed : {A : Type 0} (r : Result A BuildFault) (e : BuildFault) (leaves : Leaves) (first : ℕ) → IsErrAnd r (λ f. f ≡ e) → IsFaultOf leaves first e → IfErr r (IsFaultOf leaves first)

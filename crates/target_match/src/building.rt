@@ -30,7 +30,7 @@ pub fn ready(alloc: Global, tree: &Target, leaves: &mut u32) -> Result<Ready, Bu
     match tree {
         Target::IdPcre(text) => {
             let leaf = count(leaves);
-            Ok(Ready::IdPcre(IdPattern::new(alloc, text.as_str(), leaf)?))
+            Ok(Ready::IdPcre(IdPattern::new(alloc, text, leaf)?))
         }
         Target::GrainPcre(text) => {
             let leaf = count(leaves);

@@ -36,12 +36,12 @@ impl Model for IdPattern {
 }
 
 impl IdPattern {
-    pub fn new(alloc: Global, text: &str, leaf: u32) -> Result<IdPattern, BuildFault>
+    pub fn new(alloc: Global, text: &Text, leaf: u32) -> Result<IdPattern, BuildFault>
         ensures value { IfOk result (λ p. p ≡ text.now) }
         ensures readable { IfOk result (λ _. IsReadable text.now) }
         ensures unreadable { IfErr result (IsRefusalOf text.now leaf) }
     {
-        let regex = compile(alloc, text, leaf)?;
+        let regex = compile(alloc, text.as_str(), leaf)?;
         Ok(IdPattern { regex })
     }
 
