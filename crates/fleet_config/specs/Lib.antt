@@ -1,2 +1,6 @@
+pub mod Limits
 pub mod Tree
+pub mod Fleet
+pub mod Causes
+pub mod Growth
 pub mod Places

@@ -1,19 +1,26 @@
 -- The fleet as a tree, given by each node's parent. Node 0 is the top; a node's place in the list is its number.
-use Rattle.std.specs.Prelude.{ℕ, zero, suc, ◌≡◌, ◌≢◌, ◌<◌, ◌≤◌, ◌==◌, nat_lt, ◌&&◌, ◌||◌, Bool, true, false, List, [], ◌∷◌, ◌++◌, length, filter, map, position, unwrap_or, bytes_eq, if◌then◌else◌}
+use Rattle.std.specs.Prelude.{ℕ, zero, suc, ◌≡◌, ◌≢◌, ◌<◌, ◌≤◌, ◌==◌, nat_lt, ◌&&◌, ◌||◌, Bool, true, false, List, [], ◌∷◌, ◌++◌, ◌+◌, length, filter, map, position, unwrap_or, bytes_eq, if◌then◌else◌}
 use Rattle.std.specs.List.{slice_index_or}
+use Rattle.fleet_config.specs.Limits.{most_minions, most_syndics, most_levels}
 use Rattle.fleet_config.specs.declared.fleet.Member.{Member}
 use Rattle.fleet_config.specs.declared.fleet.Role.{Role}
 use Rattle.fleet_config.specs.declared.fleet.Role.TheVariants as role
 
+-- the nodes of a fleet in order, the top first
+abbrev pub Tree : Type 0
+Tree = List Member
+
 -- the node at a place, and a top without an id past the end
-abbrev pub member : List Member → ℕ → Member
-member f i = slice_index_or f i (record { id = []; role = role.Top; parent = record { 0 = 0 } })
+abbrev pub member : Tree → ℕ → Member
+member t i = slice_index_or t i (record { id = []; role = role.Top; parent = 0 })
 
-abbrev pub id_of : List Member → ℕ → List ℕ
-id_of f i = (member f i).id
+-- the id of a node
+abbrev pub id_of : Tree → ℕ → List ℕ
+id_of t i = (member t i).id
 
-abbrev pub parent_of : List Member → ℕ → ℕ
-parent_of f i = (member f i).parent.0
+-- the place of a node's parent; that of the top is the top
+abbrev pub parent_of : Tree → ℕ → ℕ
+parent_of t i = (member t i).parent
 
 -- a minion runs jobs, and every other node is a master
 abbrev pub runs_jobs : Role → Bool
@@ -21,39 +28,72 @@ runs_jobs role.Top = false
 runs_jobs role.Syndic = false
 runs_jobs role.Minion = true
 
-abbrev pub is_minion : List Member → ℕ → Bool
-is_minion f i = runs_jobs (member f i).role
+-- a top, and no other master
+abbrev pub is_top : Role → Bool
+is_top role.Top = true
+is_top role.Syndic = false
+is_top role.Minion = false
+
+-- a master that is no top
+abbrev pub is_syndic : Role → Bool
+is_syndic role.Top = false
+is_syndic role.Syndic = true
+is_syndic role.Minion = false
+
+-- the node at a place is a minion
+abbrev pub is_minion : Tree → ℕ → Bool
+is_minion t i = runs_jobs (member t i).role
 
 -- is p the parent of c
-abbrev pub is_parent : List Member → ℕ → ℕ → Bool
-is_parent f p c = nat_lt 0 c && nat_lt c (length f) && (parent_of f c == p)
+abbrev pub is_parent : Tree → ℕ → ℕ → Bool
+is_parent t p c = nat_lt 0 c && nat_lt c (length t) && (parent_of t c == p)
 
 -- the place of the node with this id, the length where there is none
-abbrev pub place_of : List Member → List ℕ → ℕ
-place_of f id = unwrap_or (position (λ m. bytes_eq m.id id) f) (length f)
+abbrev pub place_of : Tree → List ℕ → ℕ
+place_of t id = unwrap_or (position (λ m. bytes_eq m.id id) t) (length t)
 
--- A fleet: a top first, then syndics and minions with distinct ids, each under a master that stands before it.
-pub record IsFleet (f : List Member) : Type 0 where
-  pub some : 0 < length f
-  pub few : length f ≤ 4353
-  pub top : (member f 0).role ≡ role.Top
-  pub root : parent_of f 0 ≡ 0
-  pub others : (i : ℕ) → 0 < i → i < length f → (member f i).role ≢ role.Top
-  pub before : (i : ℕ) → 0 < i → i < length f → parent_of f i < i
-  pub master : (i : ℕ) → 0 < i → i < length f → is_minion f (parent_of f i) ≡ false
-  pub distinct : (i j : ℕ) → i < length f → j < length f → id_of f i ≡ id_of f j → i ≡ j
+-- how many minions a tree has
+abbrev pub minion_count : Tree → ℕ
+minion_count t = length (filter (λ m. runs_jobs m.role) t)
+
+-- how many syndics
+abbrev pub syndic_count : Tree → ℕ
+syndic_count t = length (filter (λ m. is_syndic m.role) t)
+
+-- The level of node m by a walk up from it, of at most so many steps.
+unfoldable pub level_by : Tree → ℕ → ℕ → ℕ
+level_by t zero m = 1
+level_by t (suc k) m = if nat_lt 0 m then level_by t k (parent_of t m) + 1 else 1
+
+-- the level of a node: 1 of the top, and one more of each node than of its parent
+abbrev pub level : Tree → ℕ → ℕ
+level t m = level_by t m m
+
+-- A tree: a top first, then syndics and minions with distinct ids, each under a master that stands before it, within the limits.
+pub record IsTree (t : Tree) : Type 0 where
+  pub some : 0 < length t
+  pub top : (member t 0).role ≡ role.Top
+  pub root : parent_of t 0 ≡ 0
+  pub others : (i : ℕ) → 0 < i → i < length t → (member t i).role ≢ role.Top
+  pub before : (i : ℕ) → 0 < i → i < length t → parent_of t i < i
+  pub master : (i : ℕ) → 0 < i → i < length t → is_minion t (parent_of t i) ≡ false
+  pub distinct : (i j : ℕ) → i < length t → j < length t → id_of t i ≡ id_of t j → i ≡ j
+  pub few_minions : minion_count t ≤ most_minions
+  pub few_syndics : syndic_count t ≤ most_syndics
+  pub few_levels : (i : ℕ) → i < length t → level t i ≤ most_levels
 
 -- The child of p through which node m lies, or 0: a walk up from m, of so many steps.
-unfoldable pub branch_by : List Member → ℕ → ℕ → ℕ → ℕ
-branch_by f zero p m = 0
-branch_by f (suc k) p m = if nat_lt 0 m then (if parent_of f m == p then m else branch_by f k p (parent_of f m)) else 0
+unfoldable pub branch_by : Tree → ℕ → ℕ → ℕ → ℕ
+branch_by t zero p m = 0
+branch_by t (suc k) p m = if nat_lt 0 m then (if parent_of t m == p then m else branch_by t k p (parent_of t m)) else 0
 
-abbrev pub branch : List Member → ℕ → ℕ → ℕ
-branch f p m = branch_by f m p m
+-- the child of p through which node m lies, or 0 where m does not lie below p
+abbrev pub branch : Tree → ℕ → ℕ → ℕ
+branch t p m = branch_by t m p m
 
 -- is node m this node, or below it
-abbrev pub is_within : List Member → ℕ → ℕ → Bool
-is_within f a m = (a == m) || nat_lt 0 (branch f a m)
+abbrev pub is_within : Tree → ℕ → ℕ → Bool
+is_within t a m = (a == m) || nat_lt 0 (branch t a m)
 
 -- the numbers below n
 abbrev pub up_to : ℕ → List ℕ
@@ -61,12 +101,13 @@ up_to zero = []
 up_to (suc n) = up_to n ++ n ∷ []
 
 -- the minions at or below a node, in list order
-abbrev pub minions : List Member → ℕ → List ℕ
-minions f a = filter (λ m. is_minion f m && is_within f a m) (up_to (length f))
+abbrev pub minions : Tree → ℕ → List ℕ
+minions t a = filter (λ m. is_minion t m && is_within t a m) (up_to (length t))
+
+-- a minion right under the top
+abbrev pub minion_of : List ℕ → Member
+minion_of id = record { id = id; role = role.Minion; parent = 0 }
 
 -- a top with these minions under it
-abbrev pub minion_of : List ℕ → Member
-minion_of id = record { id = id; role = role.Minion; parent = record { 0 = 0 } }
-
-abbrev pub flat_fleet : List ℕ → List (List ℕ) → List Member
-flat_fleet top ids = record { id = top; role = role.Top; parent = record { 0 = 0 } } ∷ map minion_of ids
+abbrev pub flat_tree : List ℕ → List (List ℕ) → Tree
+flat_tree top ids = record { id = top; role = role.Top; parent = 0 } ∷ map minion_of ids

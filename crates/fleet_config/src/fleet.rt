@@ -1,14 +1,32 @@
-ghost use Rattle.std.specs.Prelude.{◌≡◌, ◌∷◌, [], ◌++◌, ◌<◌, ◌≤◌, All, length, map, position, option_map, IfOk, IfSome, OnOk, if◌then◌else◌};
+//! A fleet, and the calls on it.
+ghost use Rattle.std.specs.Prelude.{◌≡◌, ◌≢◌, ◌∷◌, [], ◌++◌, ◌<◌, ◌≤◌, ℕ, List, cond, All, Some, None, length, map, position, IfOk, IfErr, IfSome, OnOk, OnErr, if◌then◌else◌};
 ghost use Rattle.fleet_config.specs.Places.{HasPlaces};
 ghost use Rattle.std.specs.List.{IsDistinct};
 ghost use Rattle.std.specs.Str.{bytes_eq};
+ghost use Rattle.fleet_config.specs.Limits.{most_minions, most_nodes, most_jobs};
 ghost use Rattle.fleet_config.specs.Tree as tree;
+ghost use Rattle.fleet_config.specs.Tree.{IsTree};
+ghost use Rattle.fleet_config.specs.Growth as growth;
+ghost use Rattle.fleet_config.specs.Causes as causes;
+ghost use Rattle.indexmap.specs.IndexMap.{get};
 
+use crate::{FleetNode, NodeFault};
 use indexmap::IndexMap;
-use salt_value::{MinionId, NodeId};
-use sqlite_items::Items;
+use salt_value::{Ids, MinionId, NodeId};
 use std::alloc::{AllocError, Global};
 use std::marker::Model;
+
+/// The greatest number of minions of a fleet. The limits are this project's own.
+pub const MOST_MINIONS: u32 = 4096;
+
+/// The greatest number of syndics of a fleet.
+pub const MOST_SYNDICS: u32 = 256;
+
+/// The greatest number of levels of a fleet, of which the top is the first.
+pub const MOST_LEVELS: u32 = 8;
+
+/// The greatest number of jobs that a fleet may say that its top holds.
+pub const MOST_JOBS: u32 = 65_535;
 
 /// What a node of a fleet is.
 #[derive(Clone, Copy, Debug, PartialEq, Eq)]
@@ -29,102 +47,167 @@ pub struct Member {
     pub parent: NodeId,
 }
 
-/// A fleet: a top, and syndics and minions with distinct ids, each under a master that stands before it in the list.
+/// A fleet: a top, and syndics and minions with distinct ids, each under a master that stands before it in the list; at first no node
+/// at all. Beside them the greatest number of jobs that the top holds.
 #[derive(Debug, Drop)]
 pub struct Fleet {
-    members: Items<Member>,
-    places: IndexMap<MinionId, u32>,
+    members: Vec<Member>,
+    places: IndexMap<MinionId, NodeId>,
+    minions: u32,
+    syndics: u32,
+    max_jobs: u32,
 }
 
 impl Model for Fleet {
-    ghost use Rattle.std.specs.Prelude.{List};
-    ghost use Rattle.fleet_config.specs.declared.fleet.Member.{Member};
+    ghost use Rattle.fleet_config.specs.Fleet.{FleetConfig};
 
-    ghost Value = { List Member };
+    ghost Value = { FleetConfig };
 
     ghost use Rattle.fleet_config.specs.Places.{IsIndexed};
 
-    ghost view = { λ f. f.members };
+    ghost view = { λ f. record { tree = f.members.items; max_jobs = f.max_jobs } };
 
-    ghost invariant = { λ f. IsIndexed f.members f.places };
+    ghost invariant = { λ f. IsIndexed f.members.items f.places f.minions f.syndics f.max_jobs };
 }
 
 impl Fleet {
     ghost use Rattle.std.specs.Prelude.{◌==◌};
-    ghost use Rattle.fleet_config.specs.Tree.{IsFleet, flat_fleet, member, place_of};
+    ghost use Rattle.fleet_config.specs.Tree.{member};
+    ghost use Rattle.fleet_config.specs.Fleet.{IsFleet, flat_fleet};
+    ghost use Rattle.fleet_config.specs.Growth.{with_node, node_fault};
+    ghost use Rattle.fleet_config.specs.declared.node.NodeFault.TheVariants.{NoMemory};
+
+    /// A fleet without a node, whose top may hold 65,535 jobs.
+    pub fn new(alloc: Global) -> Fleet
+        ensures value { result ≡ record { tree = []; max_jobs = most_jobs } }
+    {
+        Fleet {
+            members: Vec::new(alloc),
+            places: IndexMap::new(alloc),
+            minions: 0,
+            syndics: 0,
+            max_jobs: MOST_JOBS,
+        }
+    }
 
     /// A top with these minions under it. At most 4,096 minions, and no id twice.
-    pub fn flat(alloc: Global, top: MinionId, minions: Items<MinionId>) -> Result<Fleet, AllocError>
+    pub fn flat(alloc: Global, top: MinionId, minions: Ids) -> Result<Fleet, AllocError>
         requires distinct { IsDistinct bytes_eq (top ∷ minions) }
-        requires few { length minions ≤ 4096 }
-        ensures { IfOk result (λ fleet. fleet ≡ flat_fleet top minions) }
+        requires few { length minions ≤ most_minions }
+        ensures ok { IfOk result (λ fleet. fleet ≡ flat_fleet top minions) }
     {
         let members = flat_members(alloc, top, minions.as_slice())?;
         let places = index(alloc, members.as_slice())?;
-        Ok(Fleet { members, places })
+        Ok(Fleet {
+            members,
+            places,
+            minions: minions.len() as u32,
+            syndics: 0,
+            max_jobs: MOST_JOBS,
+        })
     }
 
-    /// The number of nodes.
+    /// Adds a node, and answers its place, the last one. The first node is the top, and each other one stands under a master that is
+    /// there: a fleet has at most 4,096 minions and 256 syndics, on at most 8 levels. After an error the fleet is as before.
+    pub fn add(&mut self, node: FleetNode) -> Result<NodeId, NodeFault>
+        ensures ok { IfOk result (λ place. place ≡ length self.old.tree) }
+        ensures fleet { OnOk result (self.new ≡ with_node node self.old) }
+        ensures err { OnErr result (self.new ≡ self.old) }
+        ensures fault { IfErr result (λ fault. fault ≢ NoMemory → node_fault self.old.tree node ≡ Some fault) }
+        ensures complete { OnOk result (node_fault self.old.tree node ≡ None) }
+    {
+        if let Some(fault) = self.fault_of(&node) {
+            return Err(fault);
+        }
+        let place = NodeId::new(self.count());
+        push_node(&mut self.members, &mut self.places, member_of(&node), place)?;
+        self.minions += one_where(runs_jobs(node.role));
+        self.syndics += one_where(is_syndic(node.role));
+        Ok(place)
+    }
+
+    /// Says how many jobs the top holds at most, 1 to 65,535.
+    pub fn limit_jobs(&mut self, max_jobs: u32)
+        requires some { 1 ≤ max_jobs }
+        requires few { max_jobs ≤ most_jobs }
+        ensures value { self.new ≡ record self.old { max_jobs = max_jobs } }
+    {
+        self.max_jobs = max_jobs;
+    }
+
+    /// The greatest number of jobs that the top holds.
+    pub fn max_jobs(&self) -> u32
+        ensures value { result ≡ self.now.max_jobs }
+        ensures some { 1 ≤ self.now.max_jobs }
+        ensures few { self.now.max_jobs ≤ most_jobs }
+    {
+        self.max_jobs
+    }
+
+    /// The number of nodes. A fleet with a node is a tree.
+    #[tactic(auto, using(crate::proofs::Trees::few_nodes))]
     pub fn count(&self) -> u32
-        ensures count { result ≡ length self.now }
-        ensures tree { IsFleet self.now }
+        ensures value { result ≡ length self.now.tree }
+        ensures few { length self.now.tree ≤ most_nodes }
+        ensures fleet { 0 < length self.now.tree → IsFleet self.now }
     {
         self.members.len() as u32
     }
 
     /// The node with this id.
     pub fn find(&self, id: &MinionId) -> Option<NodeId>
-        ensures place { option_map (λ n. n.0) result ≡ position (λ m. bytes_eq m.id id.now) self.now }
-        ensures within { IfSome result (λ n. n.0 < length self.now) }
+        ensures value { result ≡ position (λ m. bytes_eq m.id id.now) self.now.tree }
+        ensures within { IfSome result (λ n. n < length self.now.tree) }
     {
         match self.places.get(id) {
-            Some(place) => Some(NodeId(*place)),
+            Some(place) => Some(*place),
             None => None,
         }
     }
 
     /// The id of a node of this fleet.
     pub fn id(&self, node: NodeId) -> MinionId
-        requires { node.0 < length self.now }
-        ensures { result ≡ tree.id_of self.now node.0 }
+        requires within { node < length self.now.tree }
+        ensures value { result ≡ tree.id_of self.now.tree node }
     {
-        self.members.as_slice()[node.0 as usize].id
+        self.members[node.index()].id
     }
 
     /// What a node of this fleet is.
     pub fn role(&self, node: NodeId) -> Role
-        requires { node.0 < length self.now }
-        ensures { result ≡ (member self.now node.0).role }
+        requires within { node < length self.now.tree }
+        ensures value { result ≡ (member self.now.tree node).role }
     {
-        self.members.as_slice()[node.0 as usize].role
+        self.members[node.index()].role
     }
 
     /// The bytes of a node's id, none past the end.
     pub fn id_bytes(&self, node: NodeId) -> &[u8]
-        ensures { result.now ≡ tree.id_of self.now node.0 }
+        ensures value { result.now ≡ tree.id_of self.now.tree node }
     {
-        if (node.0 as usize) < self.members.len() {
-            self.members.as_slice()[node.0 as usize].id.as_bytes()
+        if node.index() < self.members.len() {
+            self.members[node.index()].id.as_bytes()
         } else {
             &[]
         }
     }
 
     /// The parent of a node of this fleet. That of the top is the top.
+    #[tactic(auto, using(crate::proofs::Trees::parent_within))]
     pub fn parent(&self, node: NodeId) -> NodeId
-        requires { node.0 < length self.now }
-        ensures value { result.0 ≡ tree.parent_of self.now node.0 }
-        ensures within { result.0 < length self.now }
+        requires within { node < length self.now.tree }
+        ensures value { result ≡ tree.parent_of self.now.tree node }
+        ensures within { result < length self.now.tree }
     {
-        self.members.as_slice()[node.0 as usize].parent
+        self.members[node.index()].parent
     }
 
     /// Is the node a minion? No node past the end is one.
     pub fn is_minion(&self, node: NodeId) -> bool
-        ensures { result ≡ tree.is_minion self.now node.0 }
+        ensures value { result ≡ tree.is_minion self.now.tree node }
     {
-        if (node.0 as usize) < self.members.len() {
-            runs_jobs(self.members.as_slice()[node.0 as usize].role)
+        if node.index() < self.members.len() {
+            runs_jobs(self.members[node.index()].role)
         } else {
             false
         }
@@ -132,62 +215,214 @@ impl Fleet {
 
     /// Is one node the parent of the other?
     pub fn is_parent(&self, node: NodeId, child: NodeId) -> bool
-        ensures { result ≡ tree.is_parent self.now node.0 child.0 }
+        ensures value { result ≡ tree.is_parent self.now.tree node child }
     {
-        0 < child.0 && child.0 < self.count() && self.parent(child).0 == node.0
+        0 < child.place()
+            && child.place() < self.count()
+            && self.parent(child).place() == node.place()
     }
 
-    #[tactic(auto, using(crate::proofs::Walk::walk_on, crate::proofs::Walk::walk_here, crate::proofs::Walk::walk_top, crate::proofs::Walk::walk_end))]
     /// The child of a node through which another node lies, or the top where that one doesn't lie below it.
+    #[tactic(auto, using(crate::proofs::Walk::walk_on, crate::proofs::Walk::walk_here, crate::proofs::Walk::walk_top, crate::proofs::Walk::walk_end))]
     pub fn branch(&self, node: NodeId, other: NodeId) -> NodeId
-        requires { other.0 < length self.now }
-        ensures { result.0 ≡ tree.branch self.now node.0 other.0 }
+        requires within { other < length self.now.tree }
+        ensures value { result ≡ tree.branch self.now.tree node other }
     {
         let mut at = other;
-        for step in 0..other.0 {
-            if at.0 == 0 {
-                return NodeId(0);
+        for step in 0..other.place() {
+            if at.place() == 0 {
+                return NodeId::TOP;
             }
             let parent = self.parent(at);
-            if parent.0 == node.0 {
+            if parent.place() == node.place() {
                 return at;
             }
             at = parent;
         }
-        NodeId(0)
+        NodeId::TOP
     }
 
     /// Is the other node this one, or below it?
     pub fn is_within(&self, node: NodeId, other: NodeId) -> bool
-        requires { other.0 < length self.now }
-        ensures { result ≡ tree.is_within self.now node.0 other.0 }
+        requires within { other < length self.now.tree }
+        ensures value { result ≡ tree.is_within self.now.tree node other }
     {
-        node.0 == other.0 || 0 < self.branch(node, other).0
+        node.place() == other.place() || 0 < self.branch(node, other).place()
     }
 
     /// The minions at or below a node, in list order.
     #[tactic(auto, using(crate::proofs::Owns::own_minions, crate::proofs::Owns::minion_within, crate::proofs::Owns::filter_more))]
-    pub fn minions(&self, alloc: Global, node: NodeId) -> Result<Vec<u32>, AllocError>
-        ensures value { IfOk result (λ found. found.items ≡ tree.minions self.now node.0) }
-        ensures within { IfOk result (λ found. All (λ m. m < length self.now) found.items) }
+    pub fn minions(&self, alloc: Global, node: NodeId) -> Result<Vec<NodeId>, AllocError>
+        ensures ok { IfOk result (λ found. found.items ≡ tree.minions self.now.tree node) }
+        ensures within { IfOk result (λ found. All (λ m. m < length self.now.tree) found.items) }
     {
         let _ = &self.members;
         let mut found = Vec::new(alloc);
         if self.is_minion(node) {
-            found.push(node.0)?;
+            found.push(node)?;
             return Ok(found);
         }
         for other in 0..self.count() {
-            let is_here = self.is_minion(NodeId(other)) && self.is_within(node, NodeId(other));
+            let other = NodeId::new(other);
+            let is_here = self.is_minion(other) && self.is_within(node, other);
             push_where(is_here, other, &mut found)?;
         }
         Ok(found)
+    }
+
+    // Why a node is not added, if it is not.
+    fn fault_of(&self, node: &FleetNode) -> Option<NodeFault>
+        ensures value { result ≡ node_fault self.now.tree node.now }
+    {
+        let is_some = 0 < self.count();
+        first_cause(&[
+            (is_top(node.role) || is_some, NodeFault::NoTop),
+            (!(is_top(node.role) && is_some), NodeFault::TwoTops),
+            (self.find(&node.id).is_none(), NodeFault::TwiceId),
+            (self.is_placed(node.role, node.parent), NodeFault::NoParent),
+            (self.has_room(node.role), NodeFault::TooMany),
+            (self.has_level(node.parent), NodeFault::TooDeep),
+        ])
+    }
+
+    // A top has no parent, and every other node has a master that is there.
+    fn is_placed(&self, role: Role, parent: Option<NodeId>) -> bool
+        ensures value { result ≡ growth.is_placed self.now.tree role parent }
+    {
+        if is_top(role) {
+            parent.is_none()
+        } else {
+            self.is_master_there(parent)
+        }
+    }
+
+    // Is it a master that is there?
+    fn is_master_there(&self, parent: Option<NodeId>) -> bool
+        ensures value { result ≡ growth.is_master_there self.now.tree parent }
+    {
+        match parent {
+            Some(node) => node.place() < self.count() && !self.is_minion(node),
+            None => false,
+        }
+    }
+
+    // Is there room for one more of this role?
+    fn has_room(&self, role: Role) -> bool
+        ensures value { result ≡ growth.has_room self.now.tree role }
+    {
+        match role {
+            Role::Top => true,
+            Role::Syndic => self.syndics < MOST_SYNDICS,
+            Role::Minion => self.minions < MOST_MINIONS,
+        }
+    }
+
+    // Is there a level for a node with this parent?
+    fn has_level(&self, parent: Option<NodeId>) -> bool
+        ensures value { result ≡ growth.has_level self.now.tree parent }
+    {
+        match parent {
+            Some(node) => self.level(node) < MOST_LEVELS as u64,
+            None => true,
+        }
+    }
+
+    // The level of a node, 1 of the top.
+    fn level(&self, node: NodeId) -> u64
+        ensures value { result ≡ tree.level self.now.tree node }
+    {
+        let mut at = node;
+        let mut level: u64 = 1;
+        for step in 0..node.place() {
+            if at.place() == 0 {
+                return level;
+            }
+            at = self.parent_or_top(at);
+            level += 1;
+        }
+        level
+    }
+
+    // The parent of a node, the top past the end.
+    fn parent_or_top(&self, node: NodeId) -> NodeId
+        ensures value { result ≡ tree.parent_of self.now.tree node }
+    {
+        if node.index() < self.members.len() {
+            self.members[node.index()].parent
+        } else {
+            NodeId::TOP
+        }
+    }
+}
+
+// The cause of the first test that does not hold.
+fn first_cause(tests: &[(bool, NodeFault)]) -> Option<NodeFault>
+    ensures value { result ≡ causes.first_cause tests.now }
+{
+    for (holds, cause) in tests {
+        if !*holds {
+            return Some(*cause);
+        }
+    }
+    None
+}
+
+fn is_top(role: Role) -> bool
+    ensures value { result ≡ tree.is_top role }
+{
+    matches!(role, Role::Top)
+}
+
+fn is_syndic(role: Role) -> bool
+    ensures value { result ≡ tree.is_syndic role }
+{
+    matches!(role, Role::Syndic)
+}
+
+// The node as a fleet has it: the parent of the top is the top.
+fn member_of(node: &FleetNode) -> Member
+    ensures value { result ≡ growth.member_of node.now }
+{
+    Member {
+        id: node.id,
+        role: node.role,
+        parent: node.parent.unwrap_or(NodeId::TOP),
+    }
+}
+
+fn one_where(holds: bool) -> u32
+    ensures value { result ≡ (if holds then 1 else 0) }
+{
+    if holds { 1 } else { 0 }
+}
+
+// A node and its place more, or neither.
+fn push_node(
+    members: &mut Vec<Member>,
+    places: &mut IndexMap<MinionId, NodeId>,
+    member: Member,
+    place: NodeId,
+) -> Result<(), AllocError>
+    ensures members { OnOk result (members.new.items ≡ members.old.items ++ member ∷ []) }
+    ensures places { OnOk result ((id : List ℕ) → get bytes_eq places.new id ≡ cond (bytes_eq member.id id) (Some place) (get bytes_eq places.old id)) }
+    ensures err_members { OnErr result (members.new.items ≡ members.old.items) }
+    ensures err_places { OnErr result ((id : List ℕ) → get bytes_eq places.new id ≡ get bytes_eq places.old id) }
+{
+    let count = members.len();
+    let id = member.id;
+    members.push(member)?;
+    match places.insert(id, place) {
+        Ok(_) => Ok(()),
+        Err(_) => {
+            members.truncate(count);
+            Err(AllocError)
+        }
     }
 }
 
 // A minion runs jobs, and every other node is a master.
 fn runs_jobs(role: Role) -> bool
-    ensures { result ≡ tree.runs_jobs role }
+    ensures value { result ≡ tree.runs_jobs role }
 {
     match role {
         Role::Minion => true,
@@ -195,12 +430,12 @@ fn runs_jobs(role: Role) -> bool
     }
 }
 
-// A number more, where this holds.
-fn push_where(holds: bool, number: u32, numbers: &mut Vec<u32>) -> Result<(), AllocError>
-    ensures { OnOk result (numbers.new.items ≡ numbers.old.items ++ (if holds then number ∷ [] else [])) }
+// A node more, where this holds.
+fn push_where(holds: bool, node: NodeId, nodes: &mut Vec<NodeId>) -> Result<(), AllocError>
+    ensures ok { OnOk result (nodes.new.items ≡ nodes.old.items ++ (if holds then node ∷ [] else [])) }
 {
     if holds {
-        numbers.push(number)?;
+        nodes.push(node)?;
     }
     Ok(())
 }
@@ -209,34 +444,34 @@ fn flat_members(
     alloc: Global,
     top: MinionId,
     minions: &[MinionId],
-) -> Result<Items<Member>, AllocError>
-    ensures { IfOk result (λ members. members ≡ tree.flat_fleet top minions.now) }
+) -> Result<Vec<Member>, AllocError>
+    ensures ok { IfOk result (λ members. members.items ≡ tree.flat_tree top minions.now) }
 {
-    let mut members = Items::new(alloc);
+    let mut members = Vec::new(alloc);
     members.push(Member {
         id: top,
         role: Role::Top,
-        parent: NodeId(0),
+        parent: NodeId::TOP,
     })?;
     for id in minions {
         members.push(Member {
             id: *id,
             role: Role::Minion,
-            parent: NodeId(0),
+            parent: NodeId::TOP,
         })?;
     }
     Ok(members)
 }
 
 // The place of each id.
-fn index(alloc: Global, members: &[Member]) -> Result<IndexMap<MinionId, u32>, AllocError>
-    requires few { length members.now ≤ 4353 }
+fn index(alloc: Global, members: &[Member]) -> Result<IndexMap<MinionId, NodeId>, AllocError>
+    requires few { length members.now ≤ most_nodes }
     requires distinct { IsDistinct bytes_eq (map (λ m. m.id) members.now) }
-    ensures { IfOk result (λ places. HasPlaces members.now places) }
+    ensures ok { IfOk result (λ places. HasPlaces members.now places) }
 {
     let mut places = IndexMap::new(alloc);
     for (i, member) in members.iter().enumerate() {
-        match places.insert(member.id, i as u32) {
+        match places.insert(member.id, NodeId::new(i as u32)) {
             Ok(_) => {}
             Err(_) => return Err(AllocError),
         }

@@ -1,8 +1,10 @@
-//! The fleet: a tree of nodes with distinct ids.
+//! The fleet: a tree of nodes with distinct ids, and the limits that it sets.
+//!
+//! `fleet.add(FleetNode { id, role: Role::Minion, parent: Some(NodeId::TOP) })?` puts a minion under the top, and answers its place.
 #![tactic(auto)]
 
 mod fleet;
-#[cfg(test)]
-mod tests;
+mod node;
 
-pub use fleet::{Fleet, Member, Role};
+pub use fleet::{Fleet, MOST_JOBS, MOST_LEVELS, MOST_MINIONS, MOST_SYNDICS, Member, Role};
+pub use node::{FleetNode, NodeFault};

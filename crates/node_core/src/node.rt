@@ -1,4 +1,6 @@
-ghost use Rattle.std.specs.Prelude.{◌≡◌, ◌≢◌, ◌++◌, ◌∷◌, [], ◌<◌, ◌≤◌, ◌+◌, ◌-◌, ◌==◌, ◌^◌, ℕ, List, Option, Some, None, Ok, Err, true, false, not, drop, take, length, IfOk, IfErr, OnOk, OnErr, IsOk, IsErrOf, bytes_eq, if◌then◌else◌};
+ghost use Rattle.std.specs.Prelude.{◌≡◌, ◌≢◌, ◌++◌, ◌∷◌, [], ◌<◌, ◌≤◌, ◌+◌, ◌-◌, ◌==◌, ◌^◌, ℕ, List, Option, Some, None, Ok, Err, true, false, not, drop, take, length, All, IfOk, IfErr, IfSome, OnOk, OnErr, IsOk, IsErrOf, bytes_eq, if◌then◌else◌};
+ghost use Rattle.fleet_config.specs.Limits.{most_jobs};
+ghost use Rattle.fleet_config.specs.Causes.{first_cause};
 ghost use Rattle.fleet_config.specs.Tree as tree;
 ghost use Rattle.node_core.specs.Node as node;
 ghost use Rattle.node_core.specs.Node.Answer.{IsStray};
@@ -11,16 +13,13 @@ use crate::logs::{Logs, push_below};
 use crate::{
     Counts, Entry, Glob, Job, Message, Outcome, PendFault, PublishFault, Record, Stray, TakeFault,
 };
-use fleet_config::Fleet;
+use fleet_config::{Fleet, MOST_JOBS};
 use indexmap::IndexMap;
 use salt_glob::glob;
 use salt_value::{Jid, MinionId, NodeId};
 use sqlite_items::Items;
 use std::alloc::{AllocError, Global};
 use std::marker::Model;
-
-/// The greatest number of jobs that the top holds.
-const MOST_JOBS: u32 = 65535;
 
 /// A node: its records, and the counts that it keeps in memory alone. What follows from the records is kept beside them, so that no
 /// call goes through them.
@@ -49,7 +48,7 @@ impl Model for Node {
 
 impl Node {
     ghost use Rattle.fleet_config.specs.Tree.{member};
-    ghost use Rattle.node_core.specs.Node.{NodeState, taken, taken_in, answer_of, stray_of, accepted, after_pub, after_up, pending, pending_down, pending_up, pending_ups, publication, first_node, with_record, is_neighbour, is_next, may_take, may_record};
+    ghost use Rattle.node_core.specs.Node.{NodeState, taken, taken_in, answer_of, stray_of, accepted, after_pub, after_up, pending, pending_down, pending_up, pending_ups, publication, first_node, with_record, is_neighbour, is_next, may_take, may_record, IsCounted};
     ghost use Rattle.node_core.specs.Node.Answer.{Reply};
     ghost use Rattle.node_core.specs.Records.{jobs, log, jobs_held};
     ghost use Rattle.node_core.specs.Flat.{return_of, entries_of};
@@ -57,7 +56,7 @@ impl Node {
 
     /// A node of this fleet as it starts: a minion boots, and a master has no record.
     pub fn start(alloc: Global, fleet: &Fleet, me: NodeId) -> Result<Node, AllocError>
-        ensures { IfOk result (λ node. node ≡ first_node (member fleet.now me.0)) }
+        ensures ok { IfOk result (λ node. node ≡ first_node (member fleet.now.tree me)) }
     {
         if fleet.is_minion(me) {
             Node::booted(alloc)
@@ -93,7 +92,8 @@ impl Node {
         })
     }
 
-    /// What node `me` of the fleet does with a message from another node. After an `Err` the node is as before.
+    /// What node `me` of the fleet does with a message from another node: it takes it, and answers the reply if there is one, or the
+    /// message is stray. After an error the node is as before.
     pub fn take(
         &mut self,
         fleet: &Fleet,
@@ -101,10 +101,12 @@ impl Node {
         from: NodeId,
         message: &Message,
     ) -> Result<Option<Message>, TakeFault>
-        requires { me.0 < length fleet.now }
-        ensures taken { IfOk result (λ reply. taken fleet.now me.0 from.0 message.now self.old ≡ record { node = self.new; answer = answer_of reply }) }
-        ensures stray { (cause : _) → IsErrOf result (TakeFault.Stray cause) → taken fleet.now me.0 from.0 message.now self.old ≡ record { node = self.old; answer = IsStray cause } }
-        ensures kept { OnErr result (self.new ≡ self.old) }
+        requires within { me < length fleet.now.tree }
+        requires counted { IsCounted message.now }
+        ensures ok { IfOk result (λ reply. taken fleet.now.tree me from message.now self.old ≡ record { node = self.new; answer = answer_of reply }) }
+        ensures counted { IfOk result (λ reply. IfSome reply IsCounted) }
+        ensures err { OnErr result (self.new ≡ self.old) }
+        ensures stray { (cause : _) → IsErrOf result (TakeFault.Stray cause) → taken fleet.now.tree me from message.now self.old ≡ record { node = self.old; answer = IsStray cause } }
     {
         if let Some(cause) = self.stray_of(fleet, me, from, message) {
             return Err(TakeFault::Stray { cause });
@@ -120,11 +122,13 @@ impl Node {
         peer: NodeId,
         max: u32,
     ) -> Result<Vec<Message>, PendFault>
-        requires { me.0 < length fleet.now }
-        ensures messages { IfOk result (λ messages. messages.items ≡ take max (pending fleet.now me.0 peer.0 self.now)) }
-        ensures neighbour { OnOk result (is_neighbour fleet.now me.0 peer.0 ≡ true) }
-        ensures none { IsErrOf result PendFault.NotNeighbour → is_neighbour fleet.now me.0 peer.0 ≡ false }
+        requires within { me < length fleet.now.tree }
+        ensures ok { IfOk result (λ messages. messages.items ≡ take max (pending fleet.now.tree me peer self.now)) }
+        ensures counted { IfOk result (λ messages. All IsCounted messages.items) }
+        ensures not_neighbour { IsErrOf result PendFault.NotNeighbour → is_neighbour fleet.now.tree me peer ≡ false }
+        ensures complete { OnOk result (is_neighbour fleet.now.tree me peer ≡ true) }
     {
+        let _ = &self.records;
         if fleet.is_parent(me, peer) {
             return Ok(self.pending_down(peer, max)?);
         }
@@ -134,14 +138,16 @@ impl Node {
         Err(PendFault::NotNeighbour)
     }
 
-    /// Publishes a job, at a moment in microseconds since 1970-01-01 UTC. After an `Err` the node is as before.
-    pub fn publish(&mut self, moment: u64, tgt: &Glob) -> Result<Jid, PublishFault>
-        ensures published { IfOk result (λ jid. (publication moment (jobs self.old.records) ≡ Ok jid) × (self.new ≡ with_record (Record.Publish (record { jid = jid; tgt = tgt.now })) self.old)) }
-        ensures refused { IfErr result (λ fault. fault ≢ PublishFault.NoMemory → publication moment (jobs self.old.records) ≡ Err fault) }
-        ensures kept { OnErr result (self.new ≡ self.old) }
+    /// Publishes a job, at a moment in microseconds since 1970-01-01 UTC, where fewer jobs are held than the fleet says. After an error
+    /// the node is as before.
+    pub fn publish(&mut self, fleet: &Fleet, moment: u64, tgt: &Glob) -> Result<Jid, PublishFault>
+        ensures ok { IfOk result (λ jid. (publication fleet.now.max_jobs moment (jobs self.old.records) ≡ Ok jid) × (self.new ≡ with_record (Record.Publish (record { jid = jid; tgt = tgt.now })) self.old)) }
+        ensures err { OnErr result (self.new ≡ self.old) }
+        ensures fault { IfErr result (λ fault. fault ≢ PublishFault.NoMemory → publication fleet.now.max_jobs moment (jobs self.old.records) ≡ Err fault) }
     {
-        if self.jobs.len() >= MOST_JOBS as usize {
-            return Err(PublishFault::JobsFull { max: MOST_JOBS });
+        let max = fleet.max_jobs();
+        if self.jobs.len() >= max as usize {
+            return Err(PublishFault::JobsFull { max });
         }
         let Ok(jid) = Jid::next(last_jid(self.jobs.as_slice()), moment) else {
             return Err(PublishFault::JidEnd);
@@ -156,22 +162,22 @@ impl Node {
 
     /// A master's jobs in order.
     pub fn jobs(&self) -> &[Job]
-        ensures jobs { result.now ≡ jobs self.now.records }
-        ensures few { length result.now < 2 ^ 32 }
+        ensures value { result.now ≡ jobs self.now.records }
+        ensures few { length result.now ≤ most_jobs }
     {
         self.jobs.as_slice()
     }
 
     /// What a minion returned of a job, as this node has it.
     pub fn outcome(&self, id: &MinionId, seq: u32) -> Option<Outcome>
-        ensures { result ≡ return_of seq (log id.now self.now.records) }
+        ensures value { result ≡ return_of seq (log id.now self.now.records) }
     {
         return_of(seq, self.logs.entries(id))
     }
 
     // The jobs that a child is not known to hold.
     fn pending_down(&self, child: NodeId, max: u32) -> Result<Vec<Message>, AllocError>
-        ensures { IfOk result (λ messages. messages.items ≡ take max (pending_down child.0 self.now)) }
+        ensures { IfOk result (λ messages. messages.items ≡ take max (pending_down child self.now)) }
     {
         let mut messages = Vec::new(self.alloc);
         let known = self.known_jobs.known(child);
@@ -181,8 +187,8 @@ impl Node {
 
     // The count of jobs, and the entries that the parent is not known to hold.
     fn pending_up(&self, fleet: &Fleet, me: NodeId, max: u32) -> Result<Vec<Message>, AllocError>
-        requires { me.0 < length fleet.now }
-        ensures { IfOk result (λ messages. messages.items ≡ take max (pending_up fleet.now me.0 self.now)) }
+        requires { me < length fleet.now.tree }
+        ensures { IfOk result (λ messages. messages.items ≡ take max (pending_up fleet.now.tree me self.now)) }
     {
         let mut messages = Vec::new(self.alloc);
         if max == 0 {
@@ -191,7 +197,7 @@ impl Node {
         messages.push(Message::Have { jobs: self.held })?;
         let minions = fleet.minions(self.alloc, me)?;
         for minion in &minions {
-            self.push_ups(fleet, NodeId(*minion), &mut messages, max)?;
+            self.push_ups(fleet, *minion, &mut messages, max)?;
         }
         Ok(messages)
     }
@@ -204,9 +210,9 @@ impl Node {
         messages: &mut Vec<Message>,
         max: u32,
     ) -> Result<(), AllocError>
-        requires place { minion.0 < length fleet.now }
+        requires place { minion < length fleet.now.tree }
         requires room { length messages.old.items ≤ max }
-        ensures { OnOk result (messages.new.items ≡ take max (messages.old.items ++ pending_ups fleet.now self.now minion.0)) }
+        ensures { OnOk result (messages.new.items ≡ take max (messages.old.items ++ pending_ups fleet.now.tree self.now minion)) }
     {
         let id = fleet.id(minion);
         let known = self.known_ups.known(minion);
@@ -215,8 +221,8 @@ impl Node {
 
     // Why a message is not taken.
     fn stray_of(&self, fleet: &Fleet, me: NodeId, from: NodeId, message: &Message) -> Option<Stray>
-        requires { me.0 < length fleet.now }
-        ensures { result ≡ stray_of fleet.now me.0 from.0 message.now self.now }
+        requires { me < length fleet.now.tree }
+        ensures { result ≡ stray_of fleet.now.tree me from message.now self.now }
     {
         match message {
             Message::Pub { seq, job } => first_cause(&[
@@ -260,7 +266,7 @@ impl Node {
         n: u32,
         entry: &Entry,
     ) -> Option<Stray>
-        ensures { result ≡ stray_of fleet.now me.0 from.0 (Message.Up minion.now n entry.now) self.now }
+        ensures { result ≡ stray_of fleet.now.tree me from (Message.Up minion.now n entry.now) self.now }
     {
         let below = is_below(fleet, me, from, minion);
         let right_way = fleet.is_parent(me, from)
@@ -312,9 +318,12 @@ impl Node {
         from: NodeId,
         message: &Message,
     ) -> Result<Option<Message>, AllocError>
-        requires { me.0 < length fleet.now }
-        ensures accepted { IfOk result (λ reply. accepted fleet.now me.0 from.0 message.now self.old ≡ record { node = self.new; answer = answer_of reply }) }
-        ensures kept { OnErr result (self.new ≡ self.old) }
+        requires within { me < length fleet.now.tree }
+        requires taken { stray_of fleet.now.tree me from message.now self.old ≡ None }
+        requires counted { IsCounted message.now }
+        ensures accepted { IfOk result (λ reply. accepted fleet.now.tree me from message.now self.old ≡ record { node = self.new; answer = answer_of reply }) }
+        ensures counted { IfOk result (λ reply. IfSome reply IsCounted) }
+        ensures err { OnErr result (self.new ≡ self.old) }
     {
         match message {
             Message::Pub { seq, job } => Ok(Some(self.accept_pub(fleet, me, *seq, job)?)),
@@ -338,9 +347,10 @@ impl Node {
         seq: u32,
         job: &Job,
     ) -> Result<Message, AllocError>
-        requires { me.0 < length fleet.now }
-        ensures accepted { IfOk result (λ message. after_pub fleet.now me.0 seq job.now self.old ≡ record { node = self.new; answer = Reply message }) }
-        ensures kept { OnErr result (self.new ≡ self.old) }
+        requires within { me < length fleet.now.tree }
+        requires few { seq < most_jobs }
+        ensures accepted { IfOk result (λ message. after_pub fleet.now.tree me seq job.now self.old ≡ record { node = self.new; answer = Reply message }) }
+        ensures err { OnErr result (self.new ≡ self.old) }
     {
         if seq == self.held {
             self.take_in(fleet.id(me), seq, job)?;
@@ -350,8 +360,9 @@ impl Node {
 
     // The record of a job: a minion runs it first.
     fn take_in(&mut self, id: MinionId, seq: u32, job: &Job) -> Result<(), AllocError>
+        requires { jobs_held self.old.records < most_jobs }
         ensures ok { OnOk result (self.new ≡ with_record (if self.old.minion then Record.Done seq (entries_of seq job.now id) else Record.Intake job.now) self.old) }
-        ensures kept { OnErr result (self.new ≡ self.old) }
+        ensures err { OnErr result (self.new ≡ self.old) }
     {
         if self.is_minion() {
             self.add_done(seq, run(seq, job, &id))
@@ -362,41 +373,43 @@ impl Node {
 
     // A record of a job that it ran, with the entry that the job gave.
     fn add_done(&mut self, seq: u32, entry: Option<Entry>) -> Result<(), AllocError>
+        requires minion { self.old.minion ≡ true }
+        requires few { jobs_held self.old.records < most_jobs }
         ensures ok { OnOk result (self.new ≡ with_record (Record.Done seq (list_of entry)) self.old) }
-        ensures kept { OnErr result (self.new ≡ self.old) }
+        ensures err { OnErr result (self.new ≡ self.old) }
     {
-        let held = next_count(self.held)?;
         let Logs::Own(own) = &mut self.logs else {
-            return Err(AllocError);
+            unreachable!()
         };
         push_done(self.alloc, &mut self.records, own, seq, entry)?;
-        self.held = held;
+        self.held += 1;
         Ok(())
     }
 
     // A record that adds a job.
     fn add_job(&mut self, new: Record, job: &Job) -> Result<(), AllocError>
-        requires { IsJobRecord new job.now }
+        requires job { IsJobRecord new job.now }
+        requires few { length (jobs self.old.records) < most_jobs }
         ensures ok { OnOk result (self.new ≡ with_record new self.old) }
-        ensures kept { OnErr result (self.new ≡ self.old) }
+        ensures err { OnErr result (self.new ≡ self.old) }
     {
-        let held = next_count(self.held)?;
         push_both(&mut self.records, new, &mut self.jobs, job.copy()?)?;
-        self.held = held;
+        self.held += 1;
         Ok(())
     }
 
     // An entry from a child, and how many are held then.
     #[tactic(auto, using(crate::proofs::Takes::up_next))]
     fn accept_up(&mut self, minion: MinionId, n: u32, entry: Entry) -> Result<Message, AllocError>
+        requires master { self.old.minion ≡ false }
+        requires counted { n + 1 < 2 ^ 32 }
         ensures accepted { IfOk result (λ message. after_up minion n entry self.old ≡ record { node = self.new; answer = Reply message }) }
-        ensures kept { OnErr result (self.new ≡ self.old) }
+        ensures err { OnErr result (self.new ≡ self.old) }
     {
         let have = self.entries(&minion);
         if n == have {
-            let next = next_count(have)?;
             self.add_up(minion, entry)?;
-            Ok(Message::UpHave { minion, n: next })
+            Ok(Message::UpHave { minion, n: n + 1 })
         } else {
             Ok(Message::UpHave { minion, n: have })
         }
@@ -404,12 +417,13 @@ impl Node {
 
     // A record of an entry from below.
     fn add_up(&mut self, minion: MinionId, entry: Entry) -> Result<(), AllocError>
-        requires { length (log minion self.old.records) + 1 < 2 ^ 32 }
+        requires master { self.old.minion ≡ false }
+        requires room { length (log minion self.old.records) + 1 < 2 ^ 32 }
         ensures ok { OnOk result (self.new ≡ with_record (Record.Up minion entry) self.old) }
-        ensures kept { OnErr result (self.new ≡ self.old) }
+        ensures err { OnErr result (self.new ≡ self.old) }
     {
         let Logs::Below(map) = &mut self.logs else {
-            return Err(AllocError);
+            unreachable!()
         };
         push_up(self.alloc, &mut self.records, map, minion, entry)?;
         Ok(())
@@ -435,22 +449,11 @@ fn run(seq: u32, job: &Job, id: &MinionId) -> Option<Entry>
 
 // The place of the node with this id, the number of nodes where there is none.
 fn place_of(fleet: &Fleet, id: &MinionId) -> NodeId
-    ensures { result.0 ≡ tree.place_of fleet.now id.now }
+    ensures { result ≡ tree.place_of fleet.now.tree id.now }
 {
     match fleet.find(id) {
         Some(place) => place,
-        None => NodeId(fleet.count()),
-    }
-}
-
-// A count plus 1. A count that would not be a u32 is want of memory.
-fn next_count(count: u32) -> Result<u32, AllocError>
-    ensures { IfOk result (λ next. (next ≡ count + 1) × (count + 1 < 2 ^ 32)) }
-{
-    if count == u32::MAX {
-        Err(AllocError)
-    } else {
-        Ok(count + 1)
+        None => NodeId::new(fleet.count()),
     }
 }
 
@@ -464,12 +467,8 @@ fn push_both(
     ensures records { OnOk result (records.new.items ≡ records.old.items ++ new ∷ []) }
     ensures jobs { OnOk result (jobs.new.items ≡ jobs.old.items ++ job ∷ []) }
     ensures kept_records { OnErr result (records.new.items ≡ records.old.items) }
-    ensures room { OnOk result (length jobs.new.items < 2 ^ 32) }
     ensures kept_jobs { OnErr result (jobs.new.items ≡ jobs.old.items) }
 {
-    if jobs.len() >= u32::MAX as usize {
-        return Err(AllocError);
-    }
     let count = records.len();
     records.push(new)?;
     if jobs.push(job).is_err() {
@@ -513,21 +512,14 @@ fn push_done(
 ) -> Result<(), AllocError>
     ensures records { OnOk result (records.new.items ≡ records.old.items ++ Record.Done seq (list_of entry) ∷ []) }
     ensures own { OnOk result (own.new ≡ own.old ++ list_of entry) }
-    ensures room { OnOk result (length own.new < 2 ^ 32) }
     ensures kept_records { OnErr result (records.new.items ≡ records.old.items) }
     ensures kept_own { OnErr result (own.new ≡ own.old) }
 {
     let mut entries = Items::new(alloc);
     let Some(entry) = entry else {
-        if own.len() >= u32::MAX as usize {
-            return Err(AllocError);
-        }
         return Ok(records.push(Record::Done { seq, entries })?);
     };
     entries.push(entry)?;
-    if own.len() >= u32::MAX as usize - 1 {
-        return Err(AllocError);
-    }
     let count = records.len();
     records.push(Record::Done { seq, entries })?;
     if own.push(entry).is_err() {
@@ -631,7 +623,7 @@ fn is_later(jobs: &[Job], job: &Job) -> bool
 
 // The cause of the first test that does not hold.
 fn first_cause(tests: &[(bool, Stray)]) -> Option<Stray>
-    ensures { result ≡ node.first_cause tests.now }
+    ensures { result ≡ first_cause tests.now }
 {
     for (holds, cause) in tests {
         if !*holds {
@@ -642,24 +634,24 @@ fn first_cause(tests: &[(bool, Stray)]) -> Option<Stray>
 }
 
 fn is_neighbour(fleet: &Fleet, a: NodeId, b: NodeId) -> bool
-    ensures { result ≡ node.is_neighbour fleet.now a.0 b.0 }
+    ensures { result ≡ node.is_neighbour fleet.now.tree a b }
 {
     fleet.is_parent(a, b) || fleet.is_parent(b, a)
 }
 
 // Does the minion lie below a node through its child?
 fn is_below(fleet: &Fleet, me: NodeId, child: NodeId, id: &MinionId) -> bool
-    ensures { result ≡ node.is_below fleet.now me.0 child.0 id.now }
+    ensures { result ≡ node.is_below fleet.now.tree me child id.now }
 {
     match fleet.find(id) {
-        Some(minion) => fleet.is_minion(minion) && fleet.branch(me, minion).0 == child.0,
+        Some(minion) => fleet.is_minion(minion) && fleet.branch(me, minion) == child,
         None => false,
     }
 }
 
 // Is the minion this node, or below it?
 fn is_here(fleet: &Fleet, me: NodeId, id: &MinionId) -> bool
-    ensures { result ≡ node.is_here fleet.now me.0 id.now }
+    ensures { result ≡ node.is_here fleet.now.tree me id.now }
 {
     match fleet.find(id) {
         Some(minion) => fleet.is_minion(minion) && fleet.is_within(me, minion),

@@ -4,5 +4,5 @@ use Rattle.fleet_config.proofs.fleet.Fleet.minions.Goals as goal
 
 pub returns-clause-within : goal.returns-clause-within
 returns-clause-within c =
-    subst (λ (xs : List ℕ). All (λ m. m < length c.args.self.now) xs) (sym c.loop-other.invariant)
-    (filter_within c.args.self.now c.args.node.0 c.loop-other.other (subst (λ n. c.loop-other.other ≤ n) c.count-other-end.ensures.count c.loop-other.auto.other-end))
+    subst (λ (xs : List ℕ). All (λ m. m < length c.args.self.now.tree) xs) (sym c.loop-other.invariant)
+    (filter_within c.args.self.now.tree c.args.node c.loop-other.other (subst (λ n. c.loop-other.other ≤ n) c.count-other-end.ensures.value c.loop-other.auto.other-end))
