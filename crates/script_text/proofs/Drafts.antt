@@ -1,11 +1,11 @@
 -- One line more of a draft.
-use Rattle.std.proofs.Common.{◌≡◌, ℕ, ◌<◌, ◌≤◌, Bool, true, false, List, [], ◌∷◌, ◌++◌, map, length, drop, refl, sym, ap, subst, ◌∙◌, append_assoc, arith}
+use Rattle.std.proofs.Common.{◌≡◌, ℕ, ◌<◌, ◌≤◌, true, false, List, [], ◌∷◌, ◌++◌, map, length, drop, refl, sym, ap, subst, ◌∙◌, append_assoc, arith}
 use Rattle.std.specs.Prelude.{codes, bytes_eq, None, Some}
 use Rattle.std.specs.List.{AllByRecursion, list_any}
+use Rattle.std.proofs.lemmas.Bool.{both_ways}
 use Rattle.salt_value.specs.Reading.{Decodes}
-use Rattle.fleet_config.specs.declared.fleet.Member.{Member}
-use Rattle.fleet_config.specs.Tree.{flat_fleet}
-use Rattle.tree_world.specs.declared.turn.Turn.{Turn}
+use Rattle.fleet_config.specs.Fleet.{FleetConfig, flat_fleet}
+use Rattle.fleet_turns.specs.declared.turn.Turn.{Turn}
 use Rattle.script_text.specs.declared.draft.Draft.{Draft}
 use Rattle.script_text.specs.declared.draft.Stage.{Stage}
 use Rattle.script_text.specs.declared.draft.Stage.TheVariants as stage
@@ -13,13 +13,10 @@ use Rattle.script_text.specs.Script.{IsName, HasIds, MayStand, turn_line, id_lin
 use Rattle.indexmap.specs.IndexSet.{insert_key}
 use Rattle.script_text.specs.Fleet.{fleet_by, AreIds}
 use Rattle.script_text.specs.Refused.{GoesOn}
-use Rattle.script_text.specs.Draft.{IsOnly, IsRead, IsDraft, IsScriptOf, Took, lines_until, draft_lines, minions_of}
+use Rattle.script_text.specs.Draft.{IsOnly, IsRead, IsDraft, IsScriptOf, IsLineTaken, lines_until, draft_lines, minions_of}
 use Rattle.script_text.proofs.Ids.{one_more, new_id, name_of_last, room_for}
 use Rattle.script_text.proofs.Peel.{same_id}
 use Rattle.script_text.proofs.Follow.{no_minion, no_role, no_parent, no_turn, no_after, goes_on, whole, not_whole, last_lines}
-
-not_both : (b : Bool) → b ≡ false → b ≡ true → ⊥
-not_both b e f = cc
 
 -- what is known at a stage
 abbrev At : Draft → Stage → Type 0
@@ -66,7 +63,7 @@ pub next_old : (d : Draft) (line id x : List ℕ) → IsDraft d → Decodes IsNa
     → HasIds d.top (minions_of d ++ x ∷ []) → id_line x ≡ line → ⊥
 next_old d line id x h n old has e =
     let same : x ≡ id = same_id x id (e ∙ sym n.1) in
-    not_both (list_any (bytes_eq x) d.ids.keys) (ap (λ l. list_any (bytes_eq x) l) h.first ∙ new_id d.top (minions_of d) x has)
+    both_ways (list_any (bytes_eq x) d.ids.keys) (ap (λ l. list_any (bytes_eq x) l) h.first ∙ new_id d.top (minions_of d) x has)
     (ap (λ y. list_any (bytes_eq y) d.ids.keys) same ∙ old)
 
 pub next_none : (d : Draft) (line x : List ℕ) → Decodes IsName id_line line None → HasIds d.top (minions_of d ++ x ∷ []) → id_line x ≡ line → ⊥
@@ -76,7 +73,7 @@ pub minion_stops : (d : Draft) (line : List ℕ) → d.stage ≡ stage.Minion �
     → Decodes (λ x. HasIds d.top (minions_of d ++ x ∷ [])) id_line line None → GoesOn (draft_lines d ++ line ∷ []) → ⊥
 minion_stops d line e not none = stops d stage.Minion line e (no_minion d.top (minions_of d) line not none)
 
-pub role_taken : (d : Draft) (line : List ℕ) → IsDraft d → d.stage ≡ stage.Role → line ≡ codes "  role: minion" → Took d line (record d { stage = stage.Parent }) true
+pub role_taken : (d : Draft) (line : List ℕ) → IsDraft d → d.stage ≡ stage.Role → line ≡ codes "  role: minion" → IsLineTaken d line (record d { stage = stage.Parent }) true
 role_taken d line h e l =
     let r = read_at d stage.Role h e in
     let fl = fleet_lines d.top (minions_of d) in (
@@ -113,7 +110,7 @@ pub record Joined (d n : Draft) : Type 0 where
 new_minions : (keys : List (List ℕ)) (top : List ℕ) (minions : List (List ℕ)) (last : List ℕ) → keys ≡ (top ∷ minions) ++ last ∷ [] → drop 1 keys ≡ minions ++ last ∷ []
 new_minions keys top minions last e = ap (λ l. drop 1 l) e
 
-pub parent_taken : (d n : Draft) (line : List ℕ) → IsDraft d → d.stage ≡ stage.Parent → line ≡ codes "  parent: " ++ d.top → Joined d n → Took d line n true
+pub parent_taken : (d n : Draft) (line : List ℕ) → IsDraft d → d.stage ≡ stage.Parent → line ≡ codes "  parent: " ++ d.top → Joined d n → IsLineTaken d line n true
 parent_taken d n line h e l j =
     let r = read_at d stage.Parent h e in
     let keys : n.ids.keys ≡ (d.top ∷ minions_of d) ++ d.last ∷ [] = j.keys ∙ ap (λ k. k ++ d.last ∷ []) h.first in
@@ -131,7 +128,7 @@ parent_taken d n line h e l j =
 pub parent_stops : (d : Draft) (line : List ℕ) → d.stage ≡ stage.Parent → (line ≡ codes "  parent: " ++ d.top → ⊥) → GoesOn (draft_lines d ++ line ∷ []) → ⊥
 parent_stops d line e not = stops d stage.Parent line e (no_parent d.top (minions_of d) d.last line not)
 
-pub end_taken : (d : Draft) (line : List ℕ) → IsDraft d → d.stage ≡ stage.Turn → line ≡ codes "%end" → Took d line (record d { stage = stage.End }) true
+pub end_taken : (d : Draft) (line : List ℕ) → IsDraft d → d.stage ≡ stage.Turn → line ≡ codes "%end" → IsLineTaken d line (record d { stage = stage.End }) true
 end_taken d line h e l =
     let r = read_at d stage.Turn h e in
     let fl = fleet_lines d.top (minions_of d) in
@@ -147,7 +144,7 @@ fleet_is d h = ap fleet_by h.first
 pub turn_stops : (d : Draft) (line : List ℕ) → IsDraft d → d.stage ≡ stage.Turn → (line ≡ codes "%end" → ⊥)
     → Decodes (MayStand (fleet_by d.ids.keys)) (turn_line (fleet_by d.ids.keys)) line None → GoesOn (draft_lines d ++ line ∷ []) → ⊥
 turn_stops d line h e not none =
-    let P : List Member → Type 0 = λ f. Decodes (MayStand f) (turn_line f) line None in
+    let P : FleetConfig → Type 0 = λ f. Decodes (MayStand f) (turn_line f) line None in
     stops d stage.Turn line e (no_turn d.top (minions_of d) d.turns line h.read.only not (subst P (fleet_is d h) none))
 
 pub end_stops : (d : Draft) (line : List ℕ) → IsDraft d → d.stage ≡ stage.End → GoesOn (draft_lines d ++ line ∷ []) → ⊥

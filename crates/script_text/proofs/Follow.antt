@@ -2,9 +2,8 @@
 use Rattle.std.proofs.Common.{◌≡◌, ◌⊎◌, ℕ, List, [], ◌∷◌, ◌++◌, map, refl, sym, ap, subst, ◌∙◌, inl, inr, append_assoc, append-nil}
 use Rattle.std.specs.Prelude.{codes, flat_map, None, Some}
 use Rattle.std.specs.List.{AllByRecursion}
-use Rattle.fleet_config.specs.declared.fleet.Member.{Member}
-use Rattle.fleet_config.specs.Tree.{flat_fleet}
-use Rattle.tree_world.specs.declared.turn.Turn.{Turn}
+use Rattle.fleet_config.specs.Fleet.{FleetConfig, flat_fleet}
+use Rattle.fleet_turns.specs.declared.turn.Turn.{Turn}
 use Rattle.script_text.specs.declared.script.Script.{Script}
 use Rattle.script_text.specs.declared.draft.Stage.{Stage}
 use Rattle.script_text.specs.declared.draft.Stage.TheVariants as stage
@@ -112,12 +111,12 @@ same_fleet top minions turns s rest is only e =
     let f = follow top minions s (codes "%schedule" ∷ (map (turn_line (flat_fleet top minions)) turns ++ rest)) e in
     let n = no_more top minions s _ f.more f.minions_are f.lines in
     let fleet : fleet_of s ≡ flat_fleet top minions = ap (λ t. flat_fleet t s.minions) (sym f.top_is) ∙ ap (λ ms. flat_fleet top ms) n.0 in
-    let P : List Member → Type 0 = λ m. AllByRecursion (MayStand m) s.turns in
-    let Q : List Member → Type 0 = λ m. map (turn_line (flat_fleet top minions)) turns ++ rest ≡ map (turn_line m) s.turns ++ codes "%end" ∷ [] in
+    let P : FleetConfig → Type 0 = λ m. AllByRecursion (MayStand m) s.turns in
+    let Q : FleetConfig → Type 0 = λ m. map (turn_line (flat_fleet top minions)) turns ++ rest ≡ map (turn_line m) s.turns ++ codes "%end" ∷ [] in
     let l = peel_turns (flat_fleet top minions) turns s.turns rest only (subst P fleet is.turns) (subst Q fleet n.1) in
     record { top_is = f.top_is; minions_are = n.0; later = l.later; turns_are = l.all_are; each = l.each; lines = l.lines }
 
-not_turn : (f : List Member) (line : List ℕ) (rest : List (List ℕ)) (later : List Turn) → AllByRecursion (MayStand f) later
+not_turn : (f : FleetConfig) (line : List ℕ) (rest : List (List ℕ)) (later : List Turn) → AllByRecursion (MayStand f) later
     → line ∷ rest ≡ map (turn_line f) later ++ codes "%end" ∷ [] → (line ≡ codes "%end" → ⊥)
     → ((turn : Turn) → MayStand f turn → turn_line f turn ≡ line → ⊥) → ⊥
 not_turn f line rest [] each e not none = not (heads _ _ _ _ e)
@@ -135,7 +134,7 @@ no_turn top minions turns line only not none (s, is, (rest, e)) =
     let r = same_fleet top minions turns s (line ∷ rest) is only whole in
     not_turn f line rest r.later r.each r.lines not none
 
-nothing_after : (f : List Member) (line : List ℕ) (rest : List (List ℕ)) (later : List Turn)
+nothing_after : (f : FleetConfig) (line : List ℕ) (rest : List (List ℕ)) (later : List Turn)
     → codes "%end" ∷ line ∷ rest ≡ map (turn_line f) later ++ codes "%end" ∷ [] → ⊥
 nothing_after f line rest [] e = let h : line ∷ rest ≡ [] = tails _ _ _ _ e in cc
 nothing_after f line rest (t ∷ ts) e = not_end f t (sym (heads _ _ _ _ e))
@@ -215,7 +214,7 @@ short_role : (top id : List ℕ) (s : Script) (more : List (List ℕ)) → id_li
 short_role top id s [] e = not_schedule id (heads _ _ _ _ e)
 short_role top id s (m ∷ ms) e = let h = tails _ _ _ _ (tails _ _ _ _ e) in cc
 
-no_end_yet : (f : List Member) (later : List Turn) → [] ≡ map (turn_line f) later ++ codes "%end" ∷ [] → ⊥
+no_end_yet : (f : FleetConfig) (later : List Turn) → [] ≡ map (turn_line f) later ++ codes "%end" ∷ [] → ⊥
 no_end_yet f [] e = cc
 no_end_yet f (t ∷ ts) e = cc
 
@@ -231,7 +230,7 @@ no_end_turns top minions turns s is only e =
     let r = whole_turns top minions turns s [] is only (e ∙ ap (λ l. fleet_lines top minions ++ codes "%schedule" ∷ l) (sym (append-nil (map (turn_line f) turns)))) in
     no_end_yet f r.later r.lines
 
-none_later : (f : List Member) (turns all later : List Turn) → all ≡ turns ++ later → codes "%end" ∷ [] ≡ map (turn_line f) later ++ codes "%end" ∷ [] → all ≡ turns
+none_later : (f : FleetConfig) (turns all later : List Turn) → all ≡ turns ++ later → codes "%end" ∷ [] ≡ map (turn_line f) later ++ codes "%end" ∷ [] → all ≡ turns
 none_later f turns all [] e h = e ∙ append-nil turns
 none_later f turns all (t ∷ ts) e h = absurd (not_end f t (sym (heads _ _ _ _ h)))
 

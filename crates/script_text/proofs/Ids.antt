@@ -3,6 +3,7 @@ use Rattle.std.proofs.Common.{◌≡◌, ℕ, zero, suc, ◌+◌, ◌<◌, ◌�
 use Rattle.std.specs.Prelude.{None, Some, position, ◌==◌, nat_lt, ◌&&◌, ◌||◌, bytes_eq, ◌⊎◌}
 use Rattle.std.specs.List.{IsDistinct, AllByRecursion, list_any, list_all}
 use Rattle.std.proofs.Common.{inl, inr}
+use Rattle.std.proofs.lemmas.Bool.{both_ways}
 use Rattle.std.proofs.lemmas.Slice.Eq.{bytes_eq-Decides}
 use Rattle.std.proofs.lemmas.List.Quantifiers.{position-Some}
 use Rattle.std.proofs.lemmas.List.Sums.{prefix_len_passes}
@@ -12,19 +13,16 @@ use Rattle.salt_value.specs.Id.{IsId, is_id_byte}
 use Rattle.fleet_config.specs.Tree.{minion_of, id_of, parent_of, is_parent}
 use Rattle.script_text.specs.Lines.{Lacks}
 use Rattle.script_text.specs.Script.{IsName, HasIds}
-use Rattle.script_text.specs.Fleet.{fleet_by, AreIds}
+use Rattle.script_text.specs.Fleet.{tree_by, AreIds}
 use Rattle.script_text.specs.Turns.{are_neighbours}
 use Rattle.script_text.proofs.Words.{no_place}
-
-not_both : (b : Bool) → b ≡ false → b ≡ true → ⊥
-not_both b e f = cc
 
 -- the nodes of a fleet are as many as its ids
 map_len : (ids : List (List ℕ)) → length (map minion_of ids) ≡ length ids
 map_len [] = refl
 map_len (x ∷ xs) = ap suc (map_len xs)
 
-pub count_by : (ids : List (List ℕ)) → length (fleet_by ids) ≡ length ids
+pub count_by : (ids : List (List ℕ)) → length (tree_by ids) ≡ length ids
 count_by [] = refl
 count_by (top ∷ minions) = ap suc (map_len minions)
 
@@ -34,7 +32,7 @@ minion_at (x ∷ xs) zero = refl
 minion_at (x ∷ xs) (suc i) = minion_at xs i
 
 -- each node's id is the one at its place
-pub id_at : (ids : List (List ℕ)) (i : ℕ) → id_of (fleet_by ids) i ≡ get_or ids i []
+pub id_at : (ids : List (List ℕ)) (i : ℕ) → id_of (tree_by ids) i ≡ get_or ids i []
 id_at [] i = refl
 id_at (top ∷ minions) zero = refl
 id_at (top ∷ minions) (suc i) = minion_at minions i
@@ -44,7 +42,7 @@ minion_parent [] i = refl
 minion_parent (x ∷ xs) zero = refl
 minion_parent (x ∷ xs) (suc i) = minion_parent xs i
 
-parent_at : (ids : List (List ℕ)) (i : ℕ) → parent_of (fleet_by ids) i ≡ 0
+parent_at : (ids : List (List ℕ)) (i : ℕ) → parent_of (tree_by ids) i ≡ 0
 parent_at [] i = refl
 parent_at (top ∷ minions) zero = refl
 parent_at (top ∷ minions) (suc i) = minion_parent minions i
@@ -52,8 +50,8 @@ parent_at (top ∷ minions) (suc i) = minion_parent minions i
 top_parent : (b n p : ℕ) (a : ℕ) → b < n → p ≡ 0 → (nat_lt 0 b && nat_lt b n && (p == a)) ≡ (a == 0 && nat_lt 0 b)
 top_parent b n p a h e = grind arith
 
-is_parent_at : (ids : List (List ℕ)) (a b : ℕ) → b < length (fleet_by ids) → is_parent (fleet_by ids) a b ≡ (a == 0 && nat_lt 0 b)
-is_parent_at ids a b h = top_parent b (length (fleet_by ids)) (parent_of (fleet_by ids) b) a h (parent_at ids b)
+is_parent_at : (ids : List (List ℕ)) (a b : ℕ) → b < length (tree_by ids) → is_parent (tree_by ids) a b ≡ (a == 0 && nat_lt 0 b)
+is_parent_at ids a b h = top_parent b (length (tree_by ids)) (parent_of (tree_by ids) b) a h (parent_at ids b)
 
 or_cases : (x y : Bool) → (x || y) ≡ true → (x ≡ true) ⊎ (y ≡ true)
 or_cases true y e = inl refl
@@ -65,12 +63,12 @@ or_either false y (inl e) = cc
 or_either false y (inr e) = e
 
 -- the two nodes of a message in this fleet
-pub neighbours_are : (ids : List (List ℕ)) (a b : ℕ) → a < length (fleet_by ids) → b < length (fleet_by ids) → are_neighbours a b ≡ true
-    → (is_parent (fleet_by ids) a b ≡ true) ⊎ (is_parent (fleet_by ids) b a ≡ true)
+pub neighbours_are : (ids : List (List ℕ)) (a b : ℕ) → a < length (tree_by ids) → b < length (tree_by ids) → are_neighbours a b ≡ true
+    → (is_parent (tree_by ids) a b ≡ true) ⊎ (is_parent (tree_by ids) b a ≡ true)
 neighbours_are ids a b h k e = rw (is_parent_at ids a b k, is_parent_at ids b a h) (or_cases (a == 0 && nat_lt 0 b) (b == 0 && nat_lt 0 a) e)
 
-pub are_neighbours_of : (ids : List (List ℕ)) (a b : ℕ) → a < length (fleet_by ids) → b < length (fleet_by ids)
-    → (is_parent (fleet_by ids) a b ≡ true) ⊎ (is_parent (fleet_by ids) b a ≡ true) → are_neighbours a b ≡ true
+pub are_neighbours_of : (ids : List (List ℕ)) (a b : ℕ) → a < length (tree_by ids) → b < length (tree_by ids)
+    → (is_parent (tree_by ids) a b ≡ true) ⊎ (is_parent (tree_by ids) b a ≡ true) → are_neighbours a b ≡ true
 are_neighbours_of ids a b h k e =
     or_either (a == 0 && nat_lt 0 b) (b == 0 && nat_lt 0 a) (rw (← is_parent_at ids a b k, ← is_parent_at ids b a h) e)
 
@@ -85,7 +83,7 @@ name_at [] i are h = absurd are
 name_at (top ∷ minions) i are h = all_at IsName (top ∷ minions) i are.names h
 
 -- the id of each node is one
-pub name_of_node : (ids : List (List ℕ)) (i : ℕ) → AreIds ids → i < length (fleet_by ids) → IsId (id_of (fleet_by ids) i)
+pub name_of_node : (ids : List (List ℕ)) (i : ℕ) → AreIds ids → i < length (tree_by ids) → IsId (id_of (tree_by ids) i)
 name_of_node ids i are h =
     let P : List ℕ → Type 0 = IsId in
     subst P (sym (id_at ids i)) (name_at ids i are (omega (arith, count_by ids))).0
@@ -96,7 +94,7 @@ few_ids (top ∷ minions) are = let h = are.few in omega arith
 
 apart : (x : List ℕ) (xs : List (List ℕ)) (j : ℕ) → AllByRecursion (λ y. bytes_eq x y ≡ false) xs → j < length xs → x ≡ get_or xs j [] → ⊥
 apart x [] j all h e = absurd (omega arith)
-apart x (y ∷ ys) zero all h e = not_both (bytes_eq x y) all.0 ((bytes_eq-Decides x y).1 e)
+apart x (y ∷ ys) zero all h e = both_ways (bytes_eq x y) all.0 ((bytes_eq-Decides x y).1 e)
 apart x (y ∷ ys) (suc j) all h e = apart x ys j all.1 (omega arith) e
 
 -- of distinct ids each has one place
@@ -112,14 +110,14 @@ distinct_by : (ids : List (List ℕ)) → AreIds ids → IsDistinct bytes_eq ids
 distinct_by [] are = absurd are
 distinct_by (top ∷ minions) are = are.distinct
 
-pub same_node : (ids : List (List ℕ)) (i j : ℕ) → AreIds ids → i < length (fleet_by ids) → j < length (fleet_by ids)
-    → id_of (fleet_by ids) i ≡ id_of (fleet_by ids) j → i ≡ j
+pub same_node : (ids : List (List ℕ)) (i j : ℕ) → AreIds ids → i < length (tree_by ids) → j < length (tree_by ids)
+    → id_of (tree_by ids) i ≡ id_of (tree_by ids) j → i ≡ j
 same_node ids i j are h k e =
     one_place ids i j (distinct_by ids are) (omega (arith, count_by ids)) (omega (arith, count_by ids)) (sym (id_at ids i) ∙ e ∙ id_at ids j)
 
 -- where an id was found
 pub found_at : (ids : List (List ℕ)) (id : List ℕ) (i : ℕ) → position (bytes_eq id) ids ≡ Some i
-    → (i < length (fleet_by ids)) × (id_of (fleet_by ids) i ≡ id)
+    → (i < length (tree_by ids)) × (id_of (tree_by ids) i ≡ id)
 found_at ids id i e =
     let p = position-Some (bytes_eq id) ids i [] e in
     (omega (arith, p.0, count_by ids), id_at ids i ∙ sym ((bytes_eq-Decides id (get_or ids i [])).0 p.1))
@@ -129,11 +127,11 @@ not_true true e = cc
 not_true false e = refl
 
 -- and where none was
-pub not_found : (ids : List (List ℕ)) (id : List ℕ) (i : ℕ) → position (bytes_eq id) ids ≡ None → i < length (fleet_by ids) → id_of (fleet_by ids) i ≡ id → ⊥
+pub not_found : (ids : List (List ℕ)) (id : List ℕ) (i : ℕ) → position (bytes_eq id) ids ≡ None → i < length (tree_by ids) → id_of (tree_by ids) i ≡ id → ⊥
 not_found ids id i e h same =
     let low = no_place _ (length ids) e in
     let pass = prefix_len_passes (λ y. not (bytes_eq id y)) ids i [] (omega (arith, count_by ids)) in
-    not_both (bytes_eq id (get_or ids i [])) (not_true _ pass) ((bytes_eq-Decides id (get_or ids i [])).1 (sym same ∙ id_at ids i))
+    both_ways (bytes_eq id (get_or ids i [])) (not_true _ pass) ((bytes_eq-Decides id (get_or ids i [])).1 (sym same ∙ id_at ids i))
 
 and_both : (x y : Bool) → (x && y) ≡ true → (x ≡ true) × (y ≡ true)
 and_both true y e = (refl, e)
@@ -190,7 +188,7 @@ front_ids top xs ys has = record {
 
 -- the other way: of distinct ids the last is new
 none_equal : (x : List ℕ) (b : Bool) (id : List ℕ) → bytes_eq x id ≡ false → bytes_eq id x ≡ b → b ≡ false
-none_equal x true id e f = absurd (not_both (bytes_eq x id) e ((bytes_eq-Decides x id).1 (sym ((bytes_eq-Decides id x).0 f))))
+none_equal x true id e f = absurd (both_ways (bytes_eq x id) e ((bytes_eq-Decides x id).1 (sym ((bytes_eq-Decides id x).0 f))))
 none_equal x false id e f = refl
 
 all_last : (P : List ℕ → Type 0) (xs : List (List ℕ)) (x : List ℕ) → AllByRecursion P (xs ++ x ∷ []) → P x

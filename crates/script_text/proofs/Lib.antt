@@ -6,6 +6,7 @@ pub mod TurnParts
 pub mod Peel
 pub mod Follow
 pub mod Readings
+pub mod Sendings
 pub mod TurnLines
 pub mod Refusals
 pub mod Tops

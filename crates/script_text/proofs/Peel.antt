@@ -3,9 +3,9 @@ use Rattle.std.proofs.Common.{◌≡◌, ℕ, List, [], ◌∷◌, ◌++◌, map
 use Rattle.std.specs.Prelude.{codes, flat_map}
 use Rattle.std.specs.List.{AllByRecursion}
 use Rattle.std.proofs.lemmas.List.{append_cancel_left}
-use Rattle.fleet_config.specs.declared.fleet.Member.{Member}
-use Rattle.tree_world.specs.declared.turn.Turn.{Turn}
-use Rattle.tree_world.specs.declared.turn.Turn.TheVariants.{Publish, Send, Deliver, Report, Packet}
+use Rattle.fleet_config.specs.Fleet.{FleetConfig}
+use Rattle.fleet_turns.specs.declared.turn.Turn.{Turn}
+use Rattle.fleet_turns.specs.declared.turn.Turn.TheVariants.{Publish, Send, Deliver, Report, Packet}
 use Rattle.script_text.specs.Script.{MayStand, turn_line, id_line, minion_lines, top_lines}
 use Rattle.script_text.specs.Draft.{IsOnly}
 
@@ -23,7 +23,7 @@ pub not_schedule : (id : List ℕ) → id_line id ≡ codes "%schedule" → ⊥
 not_schedule id e = let h : 45 ≡ 37 = heads _ _ _ _ e in absurd (omega (arith, h))
 
 -- no turn is written as the end
-pub not_end : (f : List Member) (turn : Turn) → turn_line f turn ≡ codes "%end" → ⊥
+pub not_end : (f : FleetConfig) (turn : Turn) → turn_line f turn ≡ codes "%end" → ⊥
 not_end f (Publish moment tgt) e = let h : 112 ≡ 37 = heads _ _ _ _ e in absurd (omega (arith, h))
 not_end f (Send from to count) e = let h : 115 ≡ 37 = heads _ _ _ _ e in absurd (omega (arith, h))
 not_end f (Deliver i) e = let h : 100 ≡ 37 = heads _ _ _ _ e in absurd (omega (arith, h))
@@ -63,13 +63,13 @@ peel_minions top (m ∷ ms) (a ∷ as_) rest tail e =
     record { more = r.more; all_are = ap (λ x. x ∷ as_) (sym same) ∙ ap (λ xs. m ∷ xs) r.all_are; lines = r.lines }
 
 -- the turns after those that were read
-pub record Later (f : List Member) (turns others : List Turn) (rest : List (List ℕ)) : Type 0 where
+pub record Later (f : FleetConfig) (turns others : List Turn) (rest : List (List ℕ)) : Type 0 where
   pub later : List Turn
   pub all_are : others ≡ turns ++ later
   pub each : AllByRecursion (MayStand f) later
   pub lines : rest ≡ map (turn_line f) later ++ codes "%end" ∷ []
 
-pub peel_turns : (f : List Member) (turns others : List Turn) (rest : List (List ℕ)) → AllByRecursion (IsOnly f) turns → AllByRecursion (MayStand f) others
+pub peel_turns : (f : FleetConfig) (turns others : List Turn) (rest : List (List ℕ)) → AllByRecursion (IsOnly f) turns → AllByRecursion (MayStand f) others
     → map (turn_line f) turns ++ rest ≡ map (turn_line f) others ++ codes "%end" ∷ [] → Later f turns others rest
 peel_turns f [] others rest only each e = record { later = others; all_are = refl; each = each; lines = e }
 peel_turns f (t ∷ ts) [] rest only each e = absurd (not_end f t (heads _ _ _ _ e))

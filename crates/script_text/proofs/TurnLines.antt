@@ -1,23 +1,20 @@
 -- Turns from the parts of their lines.
-use Rattle.std.proofs.Common.{◌≡◌, ℕ, Bool, true, false, List, ◌++◌, refl, sym, ap, ◌∙◌, arith}
+use Rattle.std.proofs.Common.{◌≡◌, ℕ, true, false, List, ◌++◌, refl, sym, ap, ◌∙◌, arith}
 use Rattle.std.specs.Prelude.{codes, Option, None, Some, Result, Ok, Err, IfOk}
+use Rattle.std.proofs.lemmas.Bool.{both_ways}
 use Rattle.std.proofs.lemmas.List.{append_cancel_left, append_cancel_right}
-use Rattle.salt_value.specs.declared.id.NodeId.{NodeId}
 use Rattle.salt_value.specs.Reading.{Decodes}
-use Rattle.tree_world.specs.declared.turn.Turn.{Turn}
-use Rattle.tree_world.specs.declared.turn.Turn.TheVariants.{Publish, Send, Deliver, Report, Packet}
+use Rattle.fleet_turns.specs.declared.turn.Turn.{Turn}
+use Rattle.fleet_turns.specs.declared.turn.Turn.TheVariants.{Publish, Send, Deliver, Report, Packet}
 use Rattle.script_text.specs.Script.{MayStand, IsPattern, turn_line}
-use Rattle.script_text.specs.Fleet.{fleet_by}
+use Rattle.script_text.specs.Fleet.{fleet_by, tree_by}
 use Rattle.script_text.specs.Turns.{target_text, IsPublication, publication_text, IsSending, sending_text, are_neighbours}
 use Rattle.script_text.proofs.Ids.{neighbours_are, are_neighbours_of}
 use Rattle.script_text.proofs.Peel.{heads}
 
-not_both : (b : Bool) → b ≡ false → b ≡ true → ⊥
-not_both b e f = cc
-
 -- what this line tells of any turn that is written so
 abbrev IsSend : List (List ℕ) → List ℕ → Turn → Type 0
-IsSend ids rest y = (p : NodeId × (NodeId × ℕ)) × (y ≡ Send p.0 p.1.0 p.1.1) × IsSending (fleet_by ids) p × (are_neighbours p.0.0 p.1.0.0 ≡ true) × (sending_text (fleet_by ids) p ≡ rest)
+IsSend ids rest y = (p : ℕ × (ℕ × ℕ)) × (y ≡ Send p.0 p.1.0 p.1.1) × IsSending (tree_by ids) p × (are_neighbours p.0 p.1.0 ≡ true) × (sending_text (tree_by ids) p ≡ rest)
 
 sent : (ids : List (List ℕ)) (line rest : List ℕ) → line ≡ codes "send " ++ rest → (y : Turn) → MayStand (fleet_by ids) y → turn_line (fleet_by ids) y ≡ line → IsSend ids rest y
 sent ids line rest e (Publish moment tgt) v h = let k : 112 ≡ 115 = heads _ _ _ _ (h ∙ e) in absurd (omega (arith, k))
@@ -25,33 +22,33 @@ sent ids line rest e (Send a b n) v h = (
   (a, (b, n)),
   refl,
   (v.0.0, (v.0.1, v.0.2)),
-  are_neighbours_of ids a.0 b.0 v.0.0 v.0.1 v.0.3,
+  are_neighbours_of ids a b v.0.0 v.0.1 v.0.3,
   append_cancel_left (codes "send ") _ rest (h ∙ e),
 )
 sent ids line rest e (Deliver i) v h = let k : 100 ≡ 115 = heads _ _ _ _ (h ∙ e) in absurd (omega (arith, k))
 sent ids line rest e (Report jid) v h = let k : 114 ≡ 115 = heads _ _ _ _ (h ∙ e) in absurd (omega (arith, k))
 sent ids line rest e (Packet i) v h = absurd v.1
 
-pub send_found : (ids : List (List ℕ)) (line rest : List ℕ) (p : NodeId × (NodeId × ℕ)) → line ≡ codes "send " ++ rest
-    → Decodes (IsSending (fleet_by ids)) (sending_text (fleet_by ids)) rest (Some p) → are_neighbours p.0.0 p.1.0.0 ≡ true
+pub send_found : (ids : List (List ℕ)) (line rest : List ℕ) (p : ℕ × (ℕ × ℕ)) → line ≡ codes "send " ++ rest
+    → Decodes (IsSending (tree_by ids)) (sending_text (tree_by ids)) rest (Some p) → are_neighbours p.0 p.1.0 ≡ true
     → Decodes (MayStand (fleet_by ids)) (turn_line (fleet_by ids)) line (Some (Send p.0 p.1.0 p.1.1))
 send_found ids line rest p e d n = (
-  ((d.0.0, d.0.1.0, d.0.1.1, neighbours_are ids p.0.0 p.1.0.0 d.0.0 d.0.1.0 n), tt),
+  ((d.0.0, d.0.1.0, d.0.1.1, neighbours_are ids p.0 p.1.0 d.0.0 d.0.1.0 n), tt),
   ap (λ t. codes "send " ++ t) d.1 ∙ sym e,
   λ y v h.
       let s = sent ids line rest e y v h in
-      s.1 ∙ ap (λ (q : NodeId × (NodeId × ℕ)). Send q.0 q.1.0 q.1.1) (d.2 s.0 s.2 s.4),
+      s.1 ∙ ap (λ (q : ℕ × (ℕ × ℕ)). Send q.0 q.1.0 q.1.1) (d.2 s.0 s.2 s.4),
 )
 
-pub send_apart : (ids : List (List ℕ)) (line rest : List ℕ) (p : NodeId × (NodeId × ℕ)) → line ≡ codes "send " ++ rest
-    → Decodes (IsSending (fleet_by ids)) (sending_text (fleet_by ids)) rest (Some p) → are_neighbours p.0.0 p.1.0.0 ≡ false
+pub send_apart : (ids : List (List ℕ)) (line rest : List ℕ) (p : ℕ × (ℕ × ℕ)) → line ≡ codes "send " ++ rest
+    → Decodes (IsSending (tree_by ids)) (sending_text (tree_by ids)) rest (Some p) → are_neighbours p.0 p.1.0 ≡ false
     → Decodes (MayStand (fleet_by ids)) (turn_line (fleet_by ids)) line None
 send_apart ids line rest p e d n = λ y v h.
     let s = sent ids line rest e y v h in
-    not_both (are_neighbours p.0.0 p.1.0.0) n (ap (λ (q : NodeId × (NodeId × ℕ)). are_neighbours q.0.0 q.1.0.0) (sym (d.2 s.0 s.2 s.4)) ∙ s.3)
+    both_ways (are_neighbours p.0 p.1.0) n (ap (λ (q : ℕ × (ℕ × ℕ)). are_neighbours q.0 q.1.0) (sym (d.2 s.0 s.2 s.4)) ∙ s.3)
 
 pub send_none : (ids : List (List ℕ)) (line rest : List ℕ) → line ≡ codes "send " ++ rest
-    → Decodes (IsSending (fleet_by ids)) (sending_text (fleet_by ids)) rest None → Decodes (MayStand (fleet_by ids)) (turn_line (fleet_by ids)) line None
+    → Decodes (IsSending (tree_by ids)) (sending_text (tree_by ids)) rest None → Decodes (MayStand (fleet_by ids)) (turn_line (fleet_by ids)) line None
 send_none ids line rest e d = λ y v h. let s = sent ids line rest e y v h in d s.0 s.2 s.4
 
 abbrev IsPublish : List ℕ → Turn → Type 0

@@ -1,9 +1,8 @@
 -- A script up to some line.
 use Rattle.std.specs.Prelude.{ℕ, ◌≡◌, Bool, true, false, List, [], ◌∷◌, ◌++◌, map, drop, codes, Option, None, Some}
 use Rattle.std.specs.List.{AllByRecursion}
-use Rattle.fleet_config.specs.declared.fleet.Member.{Member}
-use Rattle.fleet_config.specs.Tree.{flat_fleet}
-use Rattle.tree_world.specs.declared.turn.Turn.{Turn}
+use Rattle.fleet_config.specs.Fleet.{FleetConfig, flat_fleet}
+use Rattle.fleet_turns.specs.declared.turn.Turn.{Turn}
 use Rattle.script_text.specs.declared.script.Script.{Script}
 use Rattle.script_text.specs.declared.draft.Draft.{Draft}
 use Rattle.script_text.specs.declared.draft.Stage.{Stage}
@@ -28,7 +27,7 @@ abbrev pub draft_lines : Draft → List (List ℕ)
 draft_lines d = lines_until d.top (minions_of d) d.last d.turns d.stage
 
 -- no other turn is written like this one
-abbrev pub IsOnly : List Member → Turn → Type 0
+abbrev pub IsOnly : FleetConfig → Turn → Type 0
 IsOnly f turn = (other : Turn) → MayStand f other → turn_line f other ≡ turn_line f turn → other ≡ turn
 
 -- no turn is there before the schedule, and a minion that was begun may stand in the fleet
@@ -52,9 +51,9 @@ pub record IsDraft (d : Draft) : Type 0 where
   pub read : IsRead d.top (minions_of d) d.last d.turns d.stage
 
 -- A line was taken, or the form does not have it there.
-abbrev pub Took : Draft → List ℕ → Draft → Bool → Type 0
-Took old line new true = IsDraft new × (draft_lines new ≡ draft_lines old ++ line ∷ [])
-Took old line new false = GoesOn (draft_lines old ++ line ∷ []) → ⊥
+abbrev pub IsLineTaken : Draft → List ℕ → Draft → Bool → Type 0
+IsLineTaken old line new true = IsDraft new × (draft_lines new ≡ draft_lines old ++ line ∷ [])
+IsLineTaken old line new false = GoesOn (draft_lines old ++ line ∷ []) → ⊥
 
 -- the one script that these lines are, and none only where they are no script
 abbrev pub IsScriptOf : List (List ℕ) → Option Script → Type 0

@@ -1,13 +1,18 @@
 -- The ids of a fleet as one list, that of the top first.
 use Rattle.std.specs.Prelude.{List, ℕ, [], ◌∷◌}
-use Rattle.fleet_config.specs.declared.fleet.Member.{Member}
-use Rattle.fleet_config.specs.Tree.{flat_fleet}
+use Rattle.fleet_config.specs.Limits.{most_jobs}
+use Rattle.fleet_config.specs.Tree.{Tree, flat_tree}
+use Rattle.fleet_config.specs.Fleet.{FleetConfig}
 use Rattle.script_text.specs.Script.{HasIds}
 
 -- a top with the first of these ids, and minions with the others
-abbrev pub fleet_by : List (List ℕ) → List Member
-fleet_by [] = []
-fleet_by (top ∷ minions) = flat_fleet top minions
+abbrev pub tree_by : List (List ℕ) → Tree
+tree_by [] = []
+tree_by (top ∷ minions) = flat_tree top minions
+
+-- the fleet of that tree, as scripts have it
+abbrev pub fleet_by : List (List ℕ) → FleetConfig
+fleet_by ids = record { tree = tree_by ids; max_jobs = most_jobs }
 
 -- these may be the ids of a fleet
 abbrev pub AreIds : List (List ℕ) → Type 0

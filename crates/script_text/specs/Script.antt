@@ -3,11 +3,12 @@ use Rattle.std.specs.Prelude.{ℕ, ◌≡◌, ◌<◌, ◌≤◌, ◌==◌, nat_
 use Rattle.std.specs.List.{list_any, list_all, IsDistinct, AllByRecursion}
 use Rattle.salt_value.specs.Id.{IsId}
 use Rattle.salt_value.specs.Jid.{jid_text}
-use Rattle.fleet_config.specs.declared.fleet.Member.{Member}
-use Rattle.fleet_config.specs.Tree.{flat_fleet, id_of}
-use Rattle.tree_world.specs.declared.turn.Turn.{Turn}
-use Rattle.tree_world.specs.declared.turn.Turn.TheVariants.{Publish, Send, Deliver, Report, Packet}
-use Rattle.tree_world.specs.Network.{IsTurn}
+use Rattle.fleet_config.specs.Limits.{most_minions}
+use Rattle.fleet_config.specs.Tree.{id_of}
+use Rattle.fleet_config.specs.Fleet.{FleetConfig, flat_fleet}
+use Rattle.fleet_turns.specs.declared.turn.Turn.{Turn}
+use Rattle.fleet_turns.specs.declared.turn.Turn.TheVariants.{Publish, Send, Deliver, Report, Packet}
+use Rattle.fleet_turns.specs.Turns.{IsTurn}
 use Rattle.script_text.specs.declared.script.Script.{Script}
 use Rattle.script_text.specs.Lines.{lines_of, spaced}
 
@@ -37,9 +38,13 @@ IsName id = IsId id × IsTrue (is_name id)
 abbrev pub is_pattern_byte : ℕ → Bool
 is_pattern_byte b = nat_le 33 b && nat_le b 126 && not (b == 34) && not (b == 92)
 
+-- the greatest number of bytes of a pattern
+abbrev pub most_pattern_bytes : ℕ
+most_pattern_bytes = 256
+
 -- 1 to 256 such bytes
 abbrev pub IsPattern : List ℕ → Type 0
-IsPattern bytes = (0 < length bytes) × (length bytes ≤ 256) × IsTrue (list_all is_pattern_byte bytes)
+IsPattern bytes = (0 < length bytes) × (length bytes ≤ most_pattern_bytes) × IsTrue (list_all is_pattern_byte bytes)
 
 -- a publication is for a pattern, and no packet is printed
 abbrev pub IsBuilt : Turn → Type 0
@@ -50,7 +55,7 @@ IsBuilt (Report jid) = Unit {0}
 IsBuilt (Packet i) = ⊥
 
 -- a turn that a schedule of this fleet may have
-abbrev pub MayStand : List Member → Turn → Type 0
+abbrev pub MayStand : FleetConfig → Turn → Type 0
 MayStand f turn = IsTurn f turn × IsBuilt turn
 
 -- the list of one quoted pattern
@@ -58,9 +63,9 @@ abbrev pub quoted : List ℕ → List ℕ
 quoted tgt = codes "[\"" ++ (tgt ++ codes "\"]")
 
 -- the line of a turn
-abbrev pub turn_line : List Member → Turn → List ℕ
+abbrev pub turn_line : FleetConfig → Turn → List ℕ
 turn_line f (Publish moment tgt) = spaced (codes "publish" ∷ decimal moment ∷ codes "glob" ∷ codes "test.ping" ∷ quoted tgt ∷ [])
-turn_line f (Send from to count) = spaced (codes "send" ∷ id_of f from.0 ∷ id_of f to.0 ∷ decimal count ∷ [])
+turn_line f (Send from to count) = spaced (codes "send" ∷ id_of f.tree from ∷ id_of f.tree to ∷ decimal count ∷ [])
 turn_line f (Deliver i) = spaced (codes "deliver" ∷ decimal i ∷ [])
 turn_line f (Report jid) = spaced (codes "report" ∷ jid_text jid ∷ [])
 turn_line f (Packet i) = spaced (codes "packet" ∷ decimal i ∷ [])
@@ -82,11 +87,11 @@ abbrev pub fleet_lines : List ℕ → List (List ℕ) → List (List ℕ)
 fleet_lines top minions = top_lines top ++ flat_map (minion_lines top) minions
 
 -- the lines of turns, between their marks
-abbrev pub schedule_lines : List Member → List Turn → List (List ℕ)
+abbrev pub schedule_lines : FleetConfig → List Turn → List (List ℕ)
 schedule_lines f turns = codes "%schedule" ∷ (map (turn_line f) turns ++ codes "%end" ∷ [])
 
 -- the fleet of a script
-abbrev pub fleet_of : Script → List Member
+abbrev pub fleet_of : Script → FleetConfig
 fleet_of s = flat_fleet s.top s.minions
 
 -- the lines that a script is written with
@@ -97,12 +102,16 @@ script_lines s = fleet_lines s.top s.minions ++ schedule_lines (fleet_of s) s.tu
 pub record HasIds (top : List ℕ) (minions : List (List ℕ)) : Type 0 where
   pub names : AllByRecursion IsName (top ∷ minions)
   pub distinct : IsDistinct bytes_eq (top ∷ minions)
-  pub few : length minions ≤ 4096
+  pub few : length minions ≤ most_minions
 
 -- what a script keeps to
 pub record IsScript (s : Script) : Type 0 where
   pub ids : HasIds s.top s.minions
   pub turns : AllByRecursion (MayStand (fleet_of s)) s.turns
+
+-- the greatest number of bytes of a text that is read
+abbrev pub most_script_bytes : ℕ
+most_script_bytes = 16777216
 
 -- the text is of this script
 abbrev pub Spells : Script → List ℕ → Type 0

@@ -1,8 +1,6 @@
 -- The parts of the lines of turns.
 use Rattle.std.specs.Prelude.{ℕ, ◌<◌, ◌^◌, ◌==◌, nat_lt, ◌&&◌, ◌||◌, Bool, List, ◌∷◌, ◌++◌, length, codes, decimal}
-use Rattle.salt_value.specs.declared.id.NodeId.{NodeId}
-use Rattle.fleet_config.specs.declared.fleet.Member.{Member}
-use Rattle.fleet_config.specs.Tree.{id_of}
+use Rattle.fleet_config.specs.Tree.{Tree, id_of}
 use Rattle.script_text.specs.Script.{IsPattern}
 
 -- what stands after the moment of a publication
@@ -17,21 +15,21 @@ IsPublication p = (p.0 < 2 ^ 64) × IsPattern p.1
 abbrev pub publication_text : ℕ × List ℕ → List ℕ
 publication_text p = decimal p.0 ++ 32 ∷ target_text p.1
 
--- a node of the fleet and a count
-abbrev pub IsShare : List Member → NodeId × ℕ → Type 0
-IsShare f p = (p.0.0 < length f) × (p.1 < 2 ^ 64)
+-- the place of a node of the tree
+abbrev pub IsPlaceIn : Tree → ℕ → Type 0
+IsPlaceIn t n = n < length t
 
--- `NODE N`
-abbrev pub share_text : List Member → NodeId × ℕ → List ℕ
-share_text f p = id_of f p.0.0 ++ 32 ∷ decimal p.1
+-- the id of a node, a space, and what stands after it
+abbrev pub node_text : Tree → ℕ → List ℕ → List ℕ
+node_text t n rest = id_of t n ++ 32 ∷ rest
 
--- two nodes of the fleet and a count
-abbrev pub IsSending : List Member → NodeId × (NodeId × ℕ) → Type 0
-IsSending f p = (p.0.0 < length f) × IsShare f p.1
+-- two nodes of the tree and a count
+abbrev pub IsSending : Tree → ℕ × (ℕ × ℕ) → Type 0
+IsSending t p = IsPlaceIn t p.0 × (IsPlaceIn t p.1.0 × (p.1.1 < 2 ^ 64))
 
 -- `FROM TO N`
-abbrev pub sending_text : List Member → NodeId × (NodeId × ℕ) → List ℕ
-sending_text f p = id_of f p.0.0 ++ 32 ∷ share_text f p.1
+abbrev pub sending_text : Tree → ℕ × (ℕ × ℕ) → List ℕ
+sending_text t p = node_text t p.0 (node_text t p.1.0 (decimal p.1.1))
 
 -- one is the top and the other a minion
 abbrev pub are_neighbours : ℕ → ℕ → Bool

@@ -7,11 +7,12 @@ use crate::lines::strip_front;
 use crate::names::read_id_line;
 use crate::script::Script;
 use crate::turns::read_turn;
+use fleet_config::MOST_MINIONS;
+use fleet_turns::Turn;
 use indexmap::IndexSet;
 use salt_value::MinionId;
 use sqlite_items::Items;
 use std::alloc::{AllocError, Global};
-use tree_world::Turn;
 
 /// What the next line may be.
 #[derive(Clone, Copy)]
@@ -41,7 +42,7 @@ pub struct Draft {
 }
 
 impl Draft {
-    ghost use Rattle.script_text.specs.Draft.{IsDraft, draft_lines, minions_of, Took, IsScriptOf};
+    ghost use Rattle.script_text.specs.Draft.{IsDraft, draft_lines, minions_of, IsLineTaken, IsScriptOf};
 
     /// The lines of the top alone.
     pub fn new(alloc: Global, top: MinionId) -> Result<Draft, AllocError>
@@ -62,7 +63,7 @@ impl Draft {
     /// Takes the next line. Whether the form of a script has it there.
     pub fn take(&mut self, alloc: Global, line: &[u8]) -> Result<bool, AllocError>
         requires { IsDraft self.old }
-        ensures { IfOk result (Took self.old line.now self.new) }
+        ensures { IfOk result (IsLineTaken self.old line.now self.new) }
     {
         match self.stage {
             Stage::Minion => Ok(self.take_minion(line)),
@@ -81,7 +82,7 @@ impl Draft {
         let Some(id) = read_id_line(line) else {
             return None;
         };
-        if self.ids.len() > 4096 {
+        if self.ids.len() > MOST_MINIONS as usize {
             return None;
         }
         if self.ids.contains(&id) {
@@ -93,7 +94,7 @@ impl Draft {
     fn take_minion(&mut self, line: &[u8]) -> bool
         requires draft { IsDraft self.old }
         requires stage { self.old.stage ≡ Stage.Minion }
-        ensures { Took self.old line.now self.new result }
+        ensures { IsLineTaken self.old line.now self.new result }
     {
         if line == b"%schedule".as_slice() {
             self.stage = Stage::Turn;
@@ -112,7 +113,7 @@ impl Draft {
     fn take_role(&mut self, line: &[u8]) -> bool
         requires draft { IsDraft self.old }
         requires stage { self.old.stage ≡ Stage.Role }
-        ensures { Took self.old line.now self.new result }
+        ensures { IsLineTaken self.old line.now self.new result }
     {
         if line == b"  role: minion".as_slice() {
             self.stage = Stage::Parent;
@@ -125,7 +126,7 @@ impl Draft {
     fn take_parent(&mut self, line: &[u8]) -> Result<bool, AllocError>
         requires draft { IsDraft self.old }
         requires stage { self.old.stage ≡ Stage.Parent }
-        ensures { IfOk result (Took self.old line.now self.new) }
+        ensures { IfOk result (IsLineTaken self.old line.now self.new) }
     {
         if is_parent_line(line, self.top.as_bytes()) {
             self.ids.insert(self.last)?;
@@ -139,7 +140,7 @@ impl Draft {
     fn take_turn(&mut self, alloc: Global, line: &[u8]) -> Result<bool, AllocError>
         requires draft { IsDraft self.old }
         requires stage { self.old.stage ≡ Stage.Turn }
-        ensures { IfOk result (Took self.old line.now self.new) }
+        ensures { IfOk result (IsLineTaken self.old line.now self.new) }
     {
         if line == b"%end".as_slice() {
             self.stage = Stage::End;

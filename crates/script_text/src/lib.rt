@@ -18,9 +18,8 @@ mod draft;
 mod lines;
 mod names;
 mod script;
-#[cfg(test)]
-mod tests;
 mod top;
 mod turns;
 
-pub use script::{Script, ScriptFault, read_script};
+pub use fleet_turns::Turn;
+pub use script::{MOST_SCRIPT_BYTES, Script, ScriptFault, read_script};

@@ -1,15 +1,19 @@
+//! The reader of a script.
 ghost use Rattle.std.specs.Prelude.{◌≡◌, ◌≤◌, ℕ, length, IfOk, IsErrOf};
-ghost use Rattle.script_text.specs.Script.{Spells};
+ghost use Rattle.script_text.specs.Script.{Spells, most_script_bytes};
 ghost use Rattle.script_text.specs.Refused.{IsRefusedAt};
 
 use crate::draft::Draft;
 use crate::lines::cut_line;
 use crate::top::read_top;
+use fleet_turns::Turn;
 use salt_value::MinionId;
 use sqlite_items::Items;
 use std::alloc::{AllocError, Global};
 use thiserror::Error;
-use tree_world::Turn;
+
+/// The greatest number of bytes of a text that is read.
+pub const MOST_SCRIPT_BYTES: usize = 16_777_216;
 
 /// A fleet of one top and its minions, and the turns of a schedule.
 #[derive(Debug, Drop)]
@@ -41,13 +45,13 @@ impl From<AllocError> for ScriptFault {
     }
 }
 
-/// Reads the script that a text of at most 16,777,216 bytes spells. It is the only one that the text spells.
+/// Reads the script that a text of at most 16,777,216 bytes spells. It is the only one that the text spells. A text that is refused
+/// spells none.
 pub fn read_script(alloc: Global, text: &[u8]) -> Result<Script, ScriptFault>
-    requires { length text.now ≤ 16777216 }
-    ensures found { IfOk result (λ script. Spells script text.now) }
-    ensures only { IfOk result (λ script. (other : Script) → Spells other text.now → other ≡ script) }
-    ensures refused { (line : ℕ) → IsErrOf result (ScriptFault.NotYet line) → (other : Script) → Spells other text.now → ⊥ }
-    ensures place { (line : ℕ) → IsErrOf result (ScriptFault.NotYet line) → IsRefusedAt line text.now }
+    requires { length text.now ≤ most_script_bytes }
+    ensures ok { IfOk result (λ script. Spells script text.now) }
+    ensures unique { IfOk result (λ script. (other : Script) → Spells other text.now → other ≡ script) }
+    ensures not_yet { (line : ℕ) → IsErrOf result (ScriptFault.NotYet line) → IsRefusedAt line text.now }
 {
     let (top, mut rest) = match read_top(text) {
         Ok(read) => read,

@@ -1,5 +1,5 @@
 //! The lines of turns.
-ghost use Rattle.std.specs.Prelude.{◌≡◌, ◌∷◌, ◌++◌, ◌<◌, ◌≤◌, ◌↔◌, codes, length, IsTrue, IfOk};
+ghost use Rattle.std.specs.Prelude.{◌≡◌, ◌++◌, ◌↔◌, ℕ, List, codes, IsTrue, IfOk, IfSome, IfNone};
 ghost use Rattle.std.specs.List.{list_all};
 ghost use Rattle.salt_value.specs.Reading.{Decodes};
 ghost use Rattle.salt_value.specs.Jid.{jid_text};
@@ -7,16 +7,19 @@ ghost use Rattle.fleet_config.specs.Tree.{id_of};
 ghost use Rattle.script_text.specs.Script as spec;
 ghost use Rattle.script_text.specs.Turns as spec_turns;
 ghost use Rattle.script_text.specs.Script.{MayStand, IsPattern, turn_line};
-ghost use Rattle.script_text.specs.Fleet.{fleet_by, AreIds};
-ghost use Rattle.script_text.specs.Turns.{target_text, IsPublication, publication_text, IsShare, share_text, IsSending, sending_text};
+ghost use Rattle.script_text.specs.Fleet.{fleet_by, tree_by, AreIds};
+ghost use Rattle.script_text.specs.Turns.{target_text, IsPublication, publication_text, IsPlaceIn, node_text, IsSending, sending_text};
 
 use crate::lines::{cut, read_number, strip_back, strip_front};
+use fleet_turns::Turn;
 use indexmap::IndexSet;
 use node_core::Glob;
 use salt_value::{Jid, MinionId, NodeId, Text};
 use std::alloc::{AllocError, Global};
 use std::str;
-use tree_world::Turn;
+
+/// The greatest number of bytes of a pattern.
+const MOST_PATTERN_BYTES: usize = 256;
 
 /// The turn of a line, in a fleet of a top with the first of these ids and minions with the others.
 pub fn read_turn(
@@ -99,7 +102,7 @@ fn are_pattern_bytes(text: &[u8]) -> bool
 fn is_pattern(text: &[u8]) -> bool
     ensures { IsTrue result ↔ IsPattern text.now }
 {
-    0 < text.len() && text.len() <= 256 && are_pattern_bytes(text)
+    0 < text.len() && text.len() <= MOST_PATTERN_BYTES && are_pattern_bytes(text)
 }
 
 // The pattern that this text is.
@@ -129,35 +132,29 @@ fn target(pattern: Text) -> Glob
 // The number of the node with this id.
 fn node_of(ids: &IndexSet<MinionId>, word: &[u8]) -> Option<NodeId>
     requires { AreIds ids.now.keys }
-    ensures { Decodes (λ n. n.0 < length (fleet_by ids.now.keys)) (λ n. id_of (fleet_by ids.now.keys) n.0) word.now result }
+    ensures { Decodes (IsPlaceIn (tree_by ids.now.keys)) (id_of (tree_by ids.now.keys)) word.now result }
 {
     let Ok(id) = MinionId::from_bytes(word) else {
         return None;
     };
     match ids.get_index_of(&id) {
-        Some(place) => Some(NodeId(place as u32)),
+        Some(place) => Some(NodeId::new(place as u32)),
         None => None,
     }
 }
 
-// `NODE N`.
-fn read_share(
-    alloc: Global,
-    ids: &IndexSet<MinionId>,
-    text: &[u8],
-) -> Result<Option<(NodeId, u64)>, AllocError>
+// The node whose id stands before the first space, and what stands after it.
+fn read_node<'a>(ids: &IndexSet<MinionId>, text: &'a [u8]) -> Option<(NodeId, &'a [u8])>
     requires { AreIds ids.now.keys }
-    ensures { IfOk result (Decodes (IsShare (fleet_by ids.now.keys)) (share_text (fleet_by ids.now.keys)) text.now) }
+    ensures some { IfSome result (λ r. IsPlaceIn (tree_by ids.now.keys) r.0 × (text.now ≡ node_text (tree_by ids.now.keys) r.0 r.1.now)) }
+    ensures none { IfNone result ((n : ℕ) (rest : List ℕ) → IsPlaceIn (tree_by ids.now.keys) n → text.now ≡ node_text (tree_by ids.now.keys) n rest → ⊥) }
 {
-    let Some((word, digits)) = cut(text, b' ') else {
-        return Ok(None);
+    let Some((word, rest)) = cut(text, b' ') else {
+        return None;
     };
-    let Some(node) = node_of(ids, word) else {
-        return Ok(None);
-    };
-    match read_number(alloc, digits)? {
-        Some(count) => Ok(Some((node, count))),
-        None => Ok(None),
+    match node_of(ids, word) {
+        Some(node) => Some((node, rest)),
+        None => None,
     }
 }
 
@@ -168,25 +165,25 @@ fn read_sending(
     text: &[u8],
 ) -> Result<Option<(NodeId, (NodeId, u64))>, AllocError>
     requires { AreIds ids.now.keys }
-    ensures { IfOk result (Decodes (IsSending (fleet_by ids.now.keys)) (sending_text (fleet_by ids.now.keys)) text.now) }
+    ensures { IfOk result (Decodes (IsSending (tree_by ids.now.keys)) (sending_text (tree_by ids.now.keys)) text.now) }
 {
-    let Some((word, rest)) = cut(text, b' ') else {
+    let Some(from) = read_node(ids, text) else {
         return Ok(None);
     };
-    let Some(from) = node_of(ids, word) else {
+    let Some(to) = read_node(ids, from.1) else {
         return Ok(None);
     };
-    match read_share(alloc, ids, rest)? {
-        Some(share) => Ok(Some((from, share))),
+    match read_number(alloc, to.1)? {
+        Some(count) => Ok(Some((from.0, (to.0, count)))),
         None => Ok(None),
     }
 }
 
 // Whether one node is the top and the other a minion.
 fn are_neighbours(a: NodeId, b: NodeId) -> bool
-    ensures { result ≡ spec_turns.are_neighbours a.0 b.0 }
+    ensures { result ≡ spec_turns.are_neighbours a b }
 {
-    (a.0 == 0 && 0 < b.0) || (b.0 == 0 && 0 < a.0)
+    (a.place() == 0 && 0 < b.place()) || (b.place() == 0 && 0 < a.place())
 }
 
 fn read_send(
@@ -199,15 +196,14 @@ fn read_send(
     requires line { line.now ≡ codes "send " ++ rest.now }
     ensures { IfOk result (Decodes (MayStand (fleet_by ids.now.keys)) (turn_line (fleet_by ids.now.keys)) line.now) }
 {
-    match read_sending(alloc, ids, rest)? {
-        Some((from, (to, count))) => {
-            if are_neighbours(from, to) {
-                Ok(Some(Turn::Send { from, to, count }))
-            } else {
-                Ok(None)
-            }
-        }
-        None => Ok(None),
+    let Some(sending) = read_sending(alloc, ids, rest)? else {
+        return Ok(None);
+    };
+    let (from, (to, count)) = sending;
+    if are_neighbours(from, to) {
+        Ok(Some(Turn::Send { from, to, count }))
+    } else {
+        Ok(None)
     }
 }
 

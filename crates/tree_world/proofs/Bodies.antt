@@ -9,7 +9,7 @@ use Rattle.salt_value.specs.WellFormed.{is_text}
 use Rattle.salt_wire.specs.Limits.{Within, right_layer}
 use Rattle.salt_wire.specs.Decoding.{decoded, kind_and_fields}
 use Rattle.salt_wire.specs.RoundTrip.{IsReadBack}
-use Rattle.salt_wire.proofs.WriteLemmas.{both_true}
+use Rattle.salt_value.proofs.WriteLemmas.{both_true}
 use Rattle.salt_wire.proofs.TreeLayers.{at-IdGlob}
 use Rattle.salt_wire.proofs.Bodies.{message_again}
 use Rattle.node_core.specs.declared.record.Entry.{Entry}
@@ -17,9 +17,6 @@ use Rattle.node_core.specs.declared.record.Entry.TheVariants.{Return, Start}
 use Rattle.node_core.specs.declared.message.Message.{Message}
 use Rattle.node_core.specs.declared.message.Message.TheVariants.{Pub, Have, Up, UpHave}
 use Rattle.tree_world.specs.Packets.{IsBody, sent_entry, sent_outcome, sent_message, body_of, flag_of, flag_layer, is_glob, heard, heard_entry, heard_return, heard_outcome, heard_up, heard_message, message_in}
-
-pub both : (a b : Bool) → a ≡ true → b ≡ true → (a && b) ≡ true
-both a b e f = rw (e, f) refl
 
 flag_back : (flag : Bool) → flag_of (Flag flag) ≡ Some flag
 flag_back flag = ap flag_of (sym (rolls-Flag flag)) ∙ ap flag_layer (out-roll-Value (Value-F.Flag flag))

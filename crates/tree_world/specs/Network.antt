@@ -1,27 +1,27 @@
 -- The network machine: the nodes of a fleet, and the list of all packets ever sent. Each turn is one step.
-use Rattle.std.specs.Prelude.{◌^◌, ◌≤◌, ◌≡◌, ℕ, ◌<◌, ◌⊎◌, min, true, false, List, [], ◌∷◌, ◌++◌, length, map, take, slice_get, slice_set, Option, None, Some, Result, Ok, Err, nat_lt, if◌then◌else◌}
+use Rattle.std.specs.Prelude.{ℕ, min, true, false, List, [], ◌∷◌, ◌++◌, length, map, take, slice_get, slice_set, Option, None, Some, Result, Ok, Err, nat_lt, if◌then◌else◌}
 use Rattle.std.specs.List.{slice_index_or}
-use Rattle.fleet_config.specs.declared.fleet.Member.{Member}
+use Rattle.fleet_config.specs.Fleet.{FleetConfig}
 use Rattle.node_core.specs.declared.job.Job.{Job}
 use Rattle.node_core.specs.declared.record.Record.TheVariants as r
 use Rattle.node_core.specs.declared.message.Message.{Message}
 use Rattle.node_core.specs.declared.faults.PublishFault.{PublishFault}
-use Rattle.fleet_config.specs.Tree.{is_parent}
 use Rattle.node_core.specs.Records.{jobs}
-use Rattle.node_core.specs.Node.{NodeState, Answer, first_node, with_record, taken, pending, publication}
+use Rattle.node_core.specs.Node.{NodeState, Answer, Taken, first_node, with_record, taken, pending, publication}
 use Rattle.node_core.specs.Node.Answer.{IsStray, Silent, Reply}
 use Rattle.tree_world.specs.Packets.{Packet}
-use Rattle.tree_world.specs.declared.turn.Turn.{Turn}
-use Rattle.tree_world.specs.declared.turn.Turn.TheVariants.{Publish, Send, Deliver, Report}
-use Rattle.tree_world.specs.declared.turn.Turn.TheVariants as t
+use Rattle.fleet_turns.specs.declared.turn.Turn.{Turn}
+use Rattle.fleet_turns.specs.declared.turn.Turn.TheVariants.{Publish, Send, Deliver, Report}
+use Rattle.fleet_turns.specs.declared.turn.Turn.TheVariants as t
 
+-- the nodes of a fleet in order, and the packets that were ever sent
 pub record Network : Type 0 where
   pub nodes : List NodeState
   pub packets : List Packet
 
 -- a fleet and its network
 pub record System : Type 0 where
-  pub fleet : List Member
+  pub fleet : FleetConfig
   pub network : Network
 
 -- the node at a place, and a master without records past the end
@@ -29,19 +29,22 @@ abbrev pub node_at : List NodeState → ℕ → NodeState
 node_at nodes i = slice_index_or nodes i (record { minion = false; records = []; known_jobs = []; known_ups = [] })
 
 -- each minion has booted, and nothing was sent
-abbrev pub start : List Member → Network
-start f = record { nodes = map first_node f; packets = [] }
+abbrev pub start : FleetConfig → Network
+start f = record { nodes = map first_node f.tree; packets = [] }
 
-abbrev pub system : List Member → System
+-- a fleet with its network as it starts
+abbrev pub system : FleetConfig → System
 system f = record { fleet = f; network = start f }
 
 -- the list of all jobs, that of the top
 abbrev pub top_jobs : Network → List Job
 top_jobs w = jobs (node_at w.nodes 0).records
 
+-- the network with another node at a place
 abbrev pub with_node : Network → ℕ → NodeState → Network
 with_node w i node = record w { nodes = slice_set w.nodes i node }
 
+-- the network with these packets after those that are there
 abbrev pub with_packets : Network → List Packet → Network
 with_packets w new = record w { packets = w.packets ++ new }
 
@@ -50,52 +53,53 @@ abbrev pub published : List ℕ → Result ℕ PublishFault → Network → Netw
 published tgt (Err cause) w = w
 published tgt (Ok jid) w = with_node w 0 (with_record (r.Publish (record { jid = jid; tgt = tgt })) (node_at w.nodes 0))
 
+-- a message on its way between two places
 abbrev pub packet : ℕ → ℕ → Message → Packet
-packet from to message = record { from = record { 0 = from }; to = record { 0 = to }; message = message }
+packet from to message = record { from = from; to = to; message = message }
 
--- the first pending messages of a node for another one, as packets; a greater count means 4,294,967,295
-abbrev pub sent : List Member → ℕ → ℕ → ℕ → Network → List Packet
-sent f from to count w = map (packet from to) (take (min count 4294967295) (pending f from to (node_at w.nodes from)))
+-- the greatest number of messages that one turn sends
+abbrev pub most_sent : ℕ
+most_sent = 4294967295
+
+-- the first pending messages of a node for another one, as packets; a count over the greatest means that
+abbrev pub sent : FleetConfig → ℕ → ℕ → ℕ → Network → List Packet
+sent f from to count w = map (packet from to) (take (min count most_sent) (pending f.tree from to (node_at w.nodes from)))
 
 -- the packets, with the reply to one of them
 abbrev pub with_reply : Packet → Answer → List Packet → List Packet
 with_reply p (IsStray cause) packets = packets
 with_reply p Silent packets = packets
-with_reply p (Reply message) packets = packets ++ packet p.to.0 p.from.0 message ∷ []
+with_reply p (Reply message) packets = packets ++ packet p.to p.from message ∷ []
 
 -- the packets, with a reply, if there is one
 abbrev pub replied : Packet → Option Message → List Packet → List Packet
 replied p None packets = packets
-replied p (Some message) packets = packets ++ packet p.to.0 p.from.0 message ∷ []
+replied p (Some message) packets = packets ++ packet p.to p.from message ∷ []
 
--- the receiver takes a packet
-abbrev pub received : List Member → Network → Packet → Network
+-- what the receiver of a packet does with it
+abbrev pub reception : FleetConfig → List NodeState → Packet → Taken
+reception f nodes p = taken f.tree p.to p.from p.message (node_at nodes p.to)
+
+-- the network after the receiver took a packet
+abbrev pub received : FleetConfig → Network → Packet → Network
 received f w p =
-    let t = taken f p.to.0 p.from.0 p.message (node_at w.nodes p.to.0) in
-    record w { nodes = slice_set w.nodes p.to.0 t.node; packets = with_reply p t.answer w.packets }
+    let t = reception f w.nodes p in
+    record w { nodes = slice_set w.nodes p.to t.node; packets = with_reply p t.answer w.packets }
 
 -- a packet that is not there, or goes to no node, does nothing
-abbrev pub delivered : List Member → Network → Option Packet → Network
+abbrev pub delivered : FleetConfig → Network → Option Packet → Network
 delivered f w None = w
-delivered f w (Some p) = if nat_lt p.to.0 (length w.nodes) then received f w p else w
+delivered f w (Some p) = if nat_lt p.to (length w.nodes) then received f w p else w
 
 -- the network after a turn
-abbrev pub after : List Member → Turn → Network → Network
-after f (Publish moment tgt) w = published tgt (publication moment (top_jobs w)) w
-after f (Send from to count) w = with_packets w (sent f from.0 to.0 count w)
+abbrev pub after : FleetConfig → Turn → Network → Network
+after f (Publish moment tgt) w = published tgt (publication f.max_jobs moment (top_jobs w)) w
+after f (Send from to count) w = with_packets w (sent f from to count w)
 after f (Deliver i) w = delivered f w (slice_get w.packets i)
 after f (Report jid) w = w
 after f (t.Packet i) w = w
 
-abbrev pub after_all : List Member → List Turn → Network → Network
+-- the network after some turns
+abbrev pub after_all : FleetConfig → List Turn → Network → Network
 after_all f [] w = w
 after_all f (turn ∷ turns) w = after_all f turns (after f turn w)
-
--- the turns that a fleet has: a message goes between two neighbours
-abbrev pub IsTurn : List Member → Turn → Type 0
-IsTurn f (Publish moment tgt) = moment < 2 ^ 64
-IsTurn f (Send from to count) =
-    (from.0 < length f) × (to.0 < length f) × (count < 2 ^ 64) × ((is_parent f from.0 to.0 ≡ true) ⊎ (is_parent f to.0 from.0 ≡ true))
-IsTurn f (Deliver i) = i < 2 ^ 64
-IsTurn f (Report jid) = jid ≤ 253402300799999999
-IsTurn f (t.Packet i) = i < 2 ^ 64

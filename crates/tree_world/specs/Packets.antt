@@ -1,6 +1,5 @@
 -- Packets: the messages of nodes on their way. The body of a packet is the spelling of its message between nodes.
 use Rattle.std.specs.Prelude.{ℕ, ◌≡◌, Bool, true, false, List, [], codes, Option, None, Some, unwrap_or, Result, Ok, Err, nat_le, ◌&&◌, length, if◌then◌else◌}
-use Rattle.salt_value.specs.declared.id.NodeId.{NodeId}
 use Rattle.salt_value.specs.declared.value.Value.{Value, out-Value}
 use Rattle.salt_value.specs.declared.value.Value.TheOpen.{Value-F}
 use Rattle.salt_value.specs.declared.value.Value.TheVariants.{Flag}
@@ -22,10 +21,10 @@ use Rattle.node_core.specs.declared.record.Entry.TheVariants.{Return, Start}
 use Rattle.node_core.specs.declared.message.Message.{Message}
 use Rattle.node_core.specs.declared.message.Message.TheVariants.{Pub, Have, Up, UpHave}
 
--- a message on its way from one node to another
+-- a message on its way from the node at one place to the node at another
 pub record Packet : Type 0 where
-  pub from : NodeId
-  pub to : NodeId
+  pub from : ℕ
+  pub to : ℕ
   pub message : Message
 
 -- ---- each message of a node as one that has a body
@@ -38,10 +37,12 @@ sent_job job = record { jid = job.jid; kind = Glob; tgt = job.tgt; target = IdGl
 abbrev pub sent_outcome : Outcome → SentOutcome
 sent_outcome outcome = record { retcode = outcome.retcode; value = Flag outcome.value }
 
+-- an entry of a minion's log
 abbrev pub sent_entry : Entry → SentEntry
 sent_entry (Return seq outcome) = e.Return seq (sent_outcome outcome)
 sent_entry (Start boot) = e.Start boot
 
+-- a message of a node, as the message that has a body
 abbrev pub sent_message : Message → SentMessage
 sent_message (Pub seq job) = m.Pub seq (sent_job job)
 sent_message (Have jobs) = m.Have jobs
@@ -54,7 +55,7 @@ body_of message = body (sent_message message)
 
 -- ---- and back: what a node hears, where it is what a node sends
 
--- a flag
+-- the flag that a value is, by its layer
 abbrev pub flag_layer : Value-F Value → Option Bool
 flag_layer Value-F.Null = None
 flag_layer (Value-F.Flag flag) = Some flag
@@ -63,23 +64,28 @@ flag_layer (Value-F.Str text) = None
 flag_layer (Value-F.List items) = None
 flag_layer (Value-F.Map fields) = None
 
+-- the flag that a value is
 abbrev pub flag_of : Value → Option Bool
 flag_of value = flag_layer (out-Value value)
 
+-- the outcome of a flag, if there is one
 abbrev pub heard_outcome : SentOutcome → Option Bool → Option Outcome
 heard_outcome outcome None = None
 heard_outcome outcome (Some flag) = Some (record { retcode = outcome.retcode; value = flag })
 
+-- the return of an outcome, if there is one
 abbrev pub heard_return : ℕ → Option Outcome → Option Entry
 heard_return seq None = None
 heard_return seq (Some outcome) = Some (Return seq outcome)
 
+-- the entry of a log that this is; events and mines are none of them
 abbrev pub heard_entry : SentEntry → Option Entry
 heard_entry (e.Return seq outcome) = heard_return seq (heard_outcome outcome (flag_of outcome.value))
 heard_entry (e.Start boot) = Some (Start boot)
 heard_entry (e.Fired event) = None
 heard_entry (e.Mine seq mine grains pillar) = None
 
+-- an entry on its way up, if there is one
 abbrev pub heard_up : List ℕ → ℕ → Option Entry → Option Message
 heard_up minion n None = None
 heard_up minion n (Some entry) = Some (Up minion n entry)
@@ -88,6 +94,7 @@ heard_up minion n (Some entry) = Some (Up minion n entry)
 abbrev pub is_glob : List ℕ → Bool
 is_glob text = nat_le 1 (length text) && nat_le (length text) 4096
 
+-- the message of a node that this is, if it is one
 abbrev pub heard_message : SentMessage → Option Message
 heard_message (m.Pub seq job) = if is_glob job.tgt then Some (Pub seq (record { jid = job.jid; tgt = job.tgt })) else None
 heard_message (m.Have jobs) = Some (Have jobs)
@@ -95,6 +102,7 @@ heard_message (m.Up minion n entry) = heard_up minion n (heard_entry entry)
 heard_message (m.UpHave minion n) = Some (UpHave minion n)
 heard_message other = None
 
+-- the message of a node that was read, if it is one
 abbrev pub heard : Result SentMessage WireFault → Option Message
 heard (Ok message) = heard_message message
 heard (Err fault) = None

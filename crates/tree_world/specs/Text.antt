@@ -2,16 +2,16 @@
 use Rattle.std.specs.Prelude.{ℕ, ◌==◌, Bool, List, [], ◌∷◌, ◌++◌, length, flat_map, position, slice_get, Option, None, Some, Result, Ok, Err, codes, decimal, if◌then◌else◌}
 use Rattle.hex.specs.Hex.{encode_lower}
 use Rattle.salt_value.specs.Jid.{jid_text}
-use Rattle.fleet_config.specs.declared.fleet.Member.{Member}
+use Rattle.fleet_config.specs.Fleet.{FleetConfig}
 use Rattle.fleet_config.specs.Tree.{id_of}
 use Rattle.node_core.specs.declared.job.Job.{Job}
 use Rattle.node_core.specs.declared.job.Row.{Row}
 use Rattle.node_core.specs.declared.faults.PublishFault.{PublishFault}
 use Rattle.node_core.specs.declared.faults.PublishFault.TheVariants.{JobsFull, JidEnd, NoMemory}
 use Rattle.node_core.specs.Node.{publication}
-use Rattle.tree_world.specs.declared.turn.Turn.{Turn}
-use Rattle.tree_world.specs.declared.turn.Turn.TheVariants.{Publish, Send, Deliver, Report}
-use Rattle.tree_world.specs.declared.turn.Turn.TheVariants as t
+use Rattle.fleet_turns.specs.declared.turn.Turn.{Turn}
+use Rattle.fleet_turns.specs.declared.turn.Turn.TheVariants.{Publish, Send, Deliver, Report}
+use Rattle.fleet_turns.specs.declared.turn.Turn.TheVariants as t
 use Rattle.tree_world.specs.Network.{Network, node_at, top_jobs, after, start}
 use Rattle.tree_world.specs.Packets.{Packet, body_of}
 use Rattle.tree_world.specs.Report.{report}
@@ -20,11 +20,13 @@ use Rattle.tree_world.specs.Report.{report}
 abbrev pub line : List ℕ → List ℕ
 line bytes = bytes ++ 10 ∷ []
 
+-- the word of a refusal; want of memory is none, and is never printed
 abbrev pub refusal_text : PublishFault → List ℕ
 refusal_text (JobsFull max) = codes "JobsFull"
 refusal_text JidEnd = codes "JidEnd"
-refusal_text NoMemory = codes "NoMemory"
+refusal_text NoMemory = []
 
+-- the line of a publication
 abbrev pub publish_text : Result ℕ PublishFault → List ℕ
 publish_text (Ok jid) = line (codes "publish " ++ jid_text jid)
 publish_text (Err cause) = line (codes "refused publish " ++ refusal_text cause)
@@ -37,12 +39,15 @@ flag_text flag = if flag then codes "true" else codes "false"
 abbrev pub row_text : Row → List ℕ
 row_text row = line (row.id ++ codes " " ++ decimal row.outcome.retcode ++ codes " " ++ flag_text row.outcome.value)
 
+-- the line above the rows of a report, with their count
 abbrev pub head_text : ℕ → ℕ → List ℕ
 head_text jid count = line (codes "report " ++ jid_text jid ++ codes " test.ping " ++ decimal count)
 
+-- the lines of a report
 abbrev pub rows_text : ℕ → List Row → List ℕ
 rows_text jid rows = head_text jid (length rows) ++ flat_map row_text rows
 
+-- the line of a job that the top does not have
 abbrev pub unknown_text : ℕ → List ℕ
 unknown_text jid = line (codes "unknown " ++ jid_text jid)
 
@@ -50,32 +55,34 @@ unknown_text jid = line (codes "unknown " ++ jid_text jid)
 abbrev pub number_of : ℕ → List Job → Option ℕ
 number_of jid jobs = position (λ job. job.jid == jid) jobs
 
-abbrev pub report_text : List Member → Network → ℕ → Option ℕ → List ℕ
+-- the lines of the job with this number, and one line where there is none
+abbrev pub report_text : FleetConfig → Network → ℕ → Option ℕ → List ℕ
 report_text f w jid None = unknown_text jid
-report_text f w jid (Some seq) = rows_text jid (report f (node_at w.nodes 0).records seq)
+report_text f w jid (Some seq) = rows_text jid (report f.tree (node_at w.nodes 0).records seq)
 
+-- the line of a packet that is not there
 abbrev pub missing_text : ℕ → List ℕ
 missing_text i = line (codes "packet " ++ decimal i ++ codes " none")
 
 -- a packet's number, the ids of its sender and its receiver, and its body in hexadecimal digits
-abbrev pub packet_text : List Member → ℕ → Option Packet → List ℕ
+abbrev pub packet_text : FleetConfig → ℕ → Option Packet → List ℕ
 packet_text f i None = missing_text i
 packet_text f i (Some p) =
-    line (codes "packet " ++ decimal i ++ codes " " ++ id_of f p.from.0 ++ codes " " ++ id_of f p.to.0 ++ codes " " ++ encode_lower (body_of p.message))
+    line (codes "packet " ++ decimal i ++ codes " " ++ id_of f.tree p.from ++ codes " " ++ id_of f.tree p.to ++ codes " " ++ encode_lower (body_of p.message))
 
 -- what a turn prints
-abbrev pub printed : List Member → Turn → Network → List ℕ
-printed f (Publish moment tgt) w = publish_text (publication moment (top_jobs w))
+abbrev pub printed : FleetConfig → Turn → Network → List ℕ
+printed f (Publish moment tgt) w = publish_text (publication f.max_jobs moment (top_jobs w))
 printed f (Send from to count) w = []
 printed f (Deliver i) w = []
 printed f (Report jid) w = report_text f w jid (number_of jid (top_jobs w))
 printed f (t.Packet i) w = packet_text f i (slice_get w.packets i)
 
 -- the text of a run from here on
-abbrev pub text_from : List Member → List Turn → Network → List ℕ
+abbrev pub text_from : FleetConfig → List Turn → Network → List ℕ
 text_from f [] w = line (codes "end")
 text_from f (turn ∷ turns) w = printed f turn w ++ text_from f turns (after f turn w)
 
 -- the text of a whole run
-abbrev pub text_of : List Member → List Turn → List ℕ
+abbrev pub text_of : FleetConfig → List Turn → List ℕ
 text_of f turns = text_from f turns (start f)

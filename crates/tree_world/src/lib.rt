@@ -1,15 +1,17 @@
 //! The network of nodes, one turn at a time, and the text that it prints.
+//!
+//! ```text
+//! let mut world = World::of(alloc, fleet)?;
+//! world.step(&Turn::Send { from: NodeId::TOP, to: NodeId::new(1), count: 1 }, &mut sink)?;
+//! ```
 #![tactic(auto)]
 
 mod packet;
 mod report;
-#[cfg(test)]
-mod tests;
 mod text;
-mod turn;
 mod wire;
 mod world;
 
+pub use fleet_turns::Turn;
 pub use packet::Packet;
-pub use turn::Turn;
 pub use world::{StepFault, World, tell};

@@ -1,3 +1,4 @@
+//! Packets: messages as bytes on their way.
 ghost use Rattle.std.specs.Prelude.{◌≡◌, IfOk, string_bytes};
 ghost use Rattle.salt_wire.specs.Decoding.{decoded};
 ghost use Rattle.hex.specs.Hex.{encode_lower};
@@ -25,12 +26,15 @@ impl Model for Packet {
 
     ghost view = { λ p. record { from = p.from; to = p.to; message = message_in p.body.items } };
 
-    ghost invariant = { λ p. IsBody p.body.items };
+    ghost use Rattle.node_core.specs.Node.{IsCounted};
+
+    ghost invariant = { λ p. IsBody p.body.items × IsCounted (message_in p.body.items) };
 }
 
 impl Packet {
     ghost use Rattle.tree_world.specs.Network.{packet};
     ghost use Rattle.tree_world.specs.Packets.{body_of};
+    ghost use Rattle.node_core.specs.Node.{IsCounted};
 
     /// The packet of a message.
     pub fn new(
@@ -39,7 +43,8 @@ impl Packet {
         to: NodeId,
         message: &Message,
     ) -> Result<Packet, AllocError>
-        ensures { IfOk result (λ p. p ≡ packet from.0 to.0 message.now) }
+        requires { IsCounted message.now }
+        ensures { IfOk result (λ p. p ≡ packet from to message.now) }
     {
         let body = body_of(alloc, message)?;
         Ok(Packet { from, to, body })
@@ -61,7 +66,8 @@ impl Packet {
 
     /// The message, read from the body.
     pub fn message(&self, alloc: Global) -> Result<Message, AllocError>
-        ensures { IfOk result (λ message. message ≡ self.now.message) }
+        ensures ok { IfOk result (λ message. message ≡ self.now.message) }
+        ensures counted { IsCounted self.now.message }
     {
         message_of(alloc, &self.body)
     }

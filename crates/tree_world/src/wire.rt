@@ -1,4 +1,4 @@
-// The messages of nodes as those that have a body, and back.
+//! The messages of nodes as those that have a body, and back.
 ghost use Rattle.std.specs.Prelude.{◌≡◌, ◌≤◌, ◌^◌, ◌<◌, length, true, codes, IfOk};
 ghost use Rattle.salt_value.specs.Id.{IsId};
 ghost use Rattle.salt_value.specs.Jid.{greatest_jid};
@@ -9,7 +9,7 @@ ghost use Rattle.node_core.specs.declared.record.Entry.TheVariants as r;
 ghost use Rattle.tree_world.specs.Packets as packets;
 
 use node_core::{Entry, Glob, Job, Message, Outcome};
-use salt_value::{Items, Jid, MinionId, Outcome as SentOutcome, Value, Word};
+use salt_value::{Items, Jid, MinionId, Outcome as SentOutcome, Value, Word, WordFault};
 use salt_wire::{Entry as SentEntry, Job as SentJob, Message as SentMessage};
 use std::alloc::{AllocError, Global};
 use target_tree::{Kind, Target};
@@ -89,7 +89,8 @@ fn ping(alloc: Global) -> Result<Word, AllocError>
 {
     match Word::read(alloc, "test.ping") {
         Ok(fun) => Ok(fun),
-        Err(_) => Err(AllocError),
+        Err(WordFault::NoMemory) => Err(AllocError),
+        Err(_) => unreachable!(),
     }
 }
 

@@ -1,32 +1,34 @@
-ghost use Rattle.std.specs.Prelude.{◌≡◌, ◌∷◌, ◌<◌, ◌≤◌, ◌++◌, ◌^◌, List, slice_set, length, map, take, true, IfOk, OnOk, IsErrOf};
-ghost use Rattle.std.specs.List.{IsDistinct};
-ghost use Rattle.std.specs.Str.{bytes_eq};
-ghost use Rattle.fleet_config.specs.Tree.{flat_fleet};
-ghost use Rattle.node_core.specs.Node.{first_node, pending, taken, is_neighbour};
-ghost use Rattle.tree_world.specs.Network.{node_at, with_reply, replied};
+//! The network of a fleet, and its turns.
+ghost use Rattle.std.specs.Prelude.{◌≡◌, ◌<◌, ◌++◌, ◌^◌, List, All, slice_set, length, map, take, true, IfOk, IfSome, OnOk, IsErrOf};
+ghost use Rattle.node_core.specs.Node.{first_node, pending, is_neighbour, IsCounted};
+ghost use Rattle.tree_world.specs.Network.{node_at, reception, with_reply, replied};
 ghost use Rattle.tree_world.specs.Packets.{Packet};
 ghost use Rattle.tree_world.specs.Network as network;
-ghost use Rattle.salt_outside.specs.Causes.{Rose};
+ghost use Rattle.salt_outside.specs.Causes.{CountsFaults};
 ghost use Rattle.salt_outside.specs.Streams.{appended, IsPart};
 
-use crate::report::{by_id, rows_of};
+use crate::report::{rows_of, sort_by_id};
 use crate::text::{missing_text, number_of, packet_text, publish_text, rows_text, unknown_text};
-use crate::{Packet, Turn};
+use crate::Packet;
 use fleet_config::Fleet;
-use node_core::{Glob, Message, Node, PublishFault, TakeFault};
+use fleet_turns::Turn;
+use node_core::{Glob, Message, Node, PendFault, PublishFault, TakeFault};
 use salt_outside::{Outside, Sink};
-use salt_value::{Jid, MinionId, NodeId};
-use sqlite_items::{Items, at};
+use salt_value::{Jid, NodeId};
+use sqlite_items::at;
 use std::alloc::{AllocError, Global};
 use std::marker::Model;
 use thiserror::Error;
+
+/// The greatest number of messages that one turn sends.
+pub const MOST_SENT: u64 = 4_294_967_295;
 
 /// A fleet, its nodes, and the packets that were ever sent.
 #[derive(Debug, Drop)]
 pub struct World {
     alloc: Global,
     fleet: Fleet,
-    order: Vec<u32>,
+    order: Vec<NodeId>,
     nodes: Vec<Node>,
     packets: Vec<Packet>,
 }
@@ -42,7 +44,7 @@ impl Model for World {
 
     ghost view = { λ w. record { fleet = w.fleet; network = record { nodes = w.nodes.items; packets = w.packets.items } } };
 
-    ghost invariant = { λ w. (length w.nodes.items ≡ length w.fleet) × (w.order.items ≡ report.by_id w.fleet (minions w.fleet 0)) × All (λ m. m < length w.fleet) w.order.items × (0 < length w.fleet) };
+    ghost invariant = { λ w. (length w.nodes.items ≡ length w.fleet.tree) × (w.order.items ≡ report.by_id w.fleet.tree (minions w.fleet.tree 0)) × All (λ m. m < length w.fleet.tree) w.order.items × (0 < length w.fleet.tree) };
 }
 
 /// Why a turn was not finished. The world is given up.
@@ -65,25 +67,18 @@ impl From<AllocError> for StepFault {
 }
 
 impl World {
-    ghost use Rattle.tree_world.specs.Network.{System, system, after, published, node_at, IsTurn, top_jobs};
+    ghost use Rattle.tree_world.specs.Network.{System, system, after, published, node_at, top_jobs};
+    ghost use Rattle.fleet_turns.specs.Turns.{IsTurn};
     ghost use Rattle.node_core.specs.Node.{publication, is_neighbour};
     ghost use Rattle.tree_world.specs.Text.{printed};
 
-    /// A top and at most 4,096 minions under it, with distinct ids. Each minion has booted once.
-    pub fn new(alloc: Global, top: MinionId, minions: Items<MinionId>) -> Result<World, AllocError>
-        requires distinct { IsDistinct bytes_eq (top ∷ minions) }
-        requires few { length minions ≤ 4096 }
-        ensures { IfOk result (λ world. world ≡ system (flat_fleet top minions)) }
-    {
-        World::of(alloc, Fleet::flat(alloc, top, minions)?)
-    }
-
-    /// The nodes of a fleet as they start.
+    /// The nodes of a fleet as they start, where it has one: each minion has booted once.
     pub fn of(alloc: Global, fleet: Fleet) -> Result<World, AllocError>
+        requires { 0 < length fleet.tree }
         ensures { IfOk result (λ world. world ≡ system fleet) }
     {
-        let minions = fleet.minions(alloc, NodeId(0))?;
-        let order = by_id(alloc, &fleet, &minions)?;
+        let mut order = fleet.minions(alloc, NodeId::TOP)?;
+        sort_by_id(&fleet, &mut order)?;
         let nodes = first_nodes(alloc, &fleet)?;
         Ok(World {
             alloc,
@@ -96,7 +91,8 @@ impl World {
 
     /// The fleet, which stays as it is.
     pub fn fleet(&self) -> &Fleet
-        ensures { result.now ≡ self.now.fleet }
+        ensures value { result.now ≡ self.now.fleet }
+        ensures some { 0 < length self.now.fleet.tree }
     {
         &self.fleet
     }
@@ -105,12 +101,11 @@ impl World {
     /// up, and a front of the text was written.
     pub fn step<K: Sink>(&mut self, turn: &Turn, sink: &mut K) -> Result<(), StepFault>
         requires { IsTurn self.old.fleet turn.now }
-        ensures state { OnOk result (self.new.network ≡ after self.old.fleet turn.now self.old.network) }
+        ensures ok { OnOk result (self.new.network ≡ after self.old.fleet turn.now self.old.network) }
         ensures fleet { self.new.fleet ≡ self.old.fleet }
         ensures text { OnOk result (K.held sink.new ≡ appended (K.held sink.old) (printed self.old.fleet turn.now self.old.network)) }
         ensures part { IsPart (K.held sink.old) (K.held sink.new) (printed self.old.fleet turn.now self.old.network) }
-        ensures fault { IsErrOf result StepFault.WriteFault → Rose (K.faults sink.old) (K.faults sink.new) }
-        ensures later { K.faults sink.old ≤ K.faults sink.new }
+        ensures faults { CountsFaults (IsErrOf result StepFault.WriteFault) (K.faults sink.old) (K.faults sink.new) }
     {
         match turn {
             Turn::Publish { moment, tgt } => {
@@ -146,14 +141,15 @@ impl World {
         moment: u64,
         tgt: &Glob,
     ) -> Result<Result<Jid, PublishFault>, AllocError>
-        ensures outcome { IfOk result (λ outcome. outcome ≡ publication moment (top_jobs self.old.network)) }
+        ensures outcome { IfOk result (λ outcome. outcome ≡ publication self.old.fleet.max_jobs moment (top_jobs self.old.network)) }
+        ensures refusal { IfOk result (λ outcome. IsErrOf outcome PublishFault.NoMemory → ⊥) }
         ensures state { IfOk result (λ outcome. self.new.network ≡ published tgt.now outcome self.old.network) }
         ensures fleet { self.new.fleet ≡ self.old.fleet }
     {
         let Some(top) = self.nodes.first_mut() else {
-            return Err(AllocError);
+            unreachable!();
         };
-        match top.publish(moment, tgt) {
+        match top.publish(&self.fleet, moment, tgt) {
             Ok(jid) => Ok(Ok(jid)),
             Err(PublishFault::NoMemory) => Err(AllocError),
             Err(cause) => Ok(Err(cause)),
@@ -165,7 +161,7 @@ impl World {
         ensures { IfOk result (λ text. text.items ≡ printed self.now.fleet (Turn.Report jid) self.now.network) }
     {
         let Some(top) = self.nodes.first() else {
-            return Err(AllocError);
+            unreachable!();
         };
         let Some(seq) = number_of(jid, top.jobs()) else {
             return unknown_text(self.alloc, jid);
@@ -186,14 +182,14 @@ impl World {
 
     // The pending messages of a node for a neighbour, as packets.
     fn send(&mut self, from: NodeId, to: NodeId, count: u64) -> Result<(), AllocError>
-        requires from { from.0 < length self.old.fleet }
-        requires neighbour { is_neighbour self.old.fleet from.0 to.0 ≡ true }
+        requires from { from < length self.old.fleet.tree }
+        requires neighbour { is_neighbour self.old.fleet.tree from to ≡ true }
         ensures state { OnOk result (self.new.network ≡ after self.old.fleet (Turn.Send from to count) self.old.network) }
         ensures fleet { self.new.fleet ≡ self.old.fleet }
     {
-        let max = count.min(u32::MAX as u64) as u32;
+        let max = count.min(MOST_SENT) as u32;
         let messages = pending_of(&self.fleet, &self.nodes, from, to, max)?;
-        push_packets(self.alloc, &mut self.packets, from, to, messages)
+        push_packets(self.alloc, &mut self.packets, from, to, &messages)
     }
 
     // The receiver takes a packet, and its reply is a packet.
@@ -207,7 +203,7 @@ impl World {
             return Ok(());
         };
         let (from, to) = (packet.from(), packet.to());
-        if to.0 as usize >= self.nodes.len() {
+        if to.index() >= self.nodes.len() {
             return Ok(());
         }
         let reply = take_packet(self.alloc, &self.fleet, &mut self.nodes, packet)?;
@@ -223,14 +219,15 @@ fn take_packet(
     nodes: &mut Vec<Node>,
     packet: &Packet,
 ) -> Result<Option<Message>, AllocError>
-    requires node { packet.now.to.0 < length nodes.old.items }
-    requires nodes { length nodes.old.items ≡ length fleet.now }
-    ensures nodes { OnOk result (nodes.new.items ≡ slice_set nodes.old.items packet.now.to.0 (taken fleet.now packet.now.to.0 packet.now.from.0 packet.now.message (node_at nodes.old.items packet.now.to.0)).node) }
-    ensures reply { IfOk result (λ reply. (packets : List Packet) → with_reply packet.now (taken fleet.now packet.now.to.0 packet.now.from.0 packet.now.message (node_at nodes.old.items packet.now.to.0)).answer packets ≡ replied packet.now reply packets) }
+    requires node { packet.now.to < length nodes.old.items }
+    requires nodes { length nodes.old.items ≡ length fleet.now.tree }
+    ensures nodes { OnOk result (nodes.new.items ≡ slice_set nodes.old.items packet.now.to (reception fleet.now nodes.old.items packet.now).node) }
+    ensures reply { IfOk result (λ reply. (packets : List Packet) → with_reply packet.now (reception fleet.now nodes.old.items packet.now).answer packets ≡ replied packet.now reply packets) }
     ensures count { length nodes.new.items ≡ length nodes.old.items }
+    ensures counted { IfOk result (λ reply. IfSome reply IsCounted) }
 {
     let message = packet.message(alloc)?;
-    let node = &mut nodes[packet.to().0 as usize];
+    let node = &mut nodes[packet.to().index()];
     match node.take(fleet, packet.to(), packet.from(), &message) {
         Ok(reply) => Ok(reply),
         Err(TakeFault::Stray { .. }) => Ok(None),
@@ -246,6 +243,7 @@ fn push_reply(
     to: NodeId,
     reply: Option<Message>,
 ) -> Result<(), AllocError>
+    requires { IfSome reply IsCounted }
     ensures { (p : Packet) → p.from ≡ from → p.to ≡ to → OnOk result (packets.new.items ≡ replied p reply packets.old.items) }
 {
     if let Some(message) = reply {
@@ -262,14 +260,16 @@ fn pending_of(
     to: NodeId,
     max: u32,
 ) -> Result<Vec<Message>, AllocError>
-    requires from { from.0 < length fleet.now }
-    requires nodes { length nodes.now ≡ length fleet.now }
-    requires neighbour { is_neighbour fleet.now from.0 to.0 ≡ true }
-    ensures { IfOk result (λ messages. messages.items ≡ take max (pending fleet.now from.0 to.0 (node_at nodes.now from.0))) }
+    requires from { from < length fleet.now.tree }
+    requires nodes { length nodes.now ≡ length fleet.now.tree }
+    requires neighbour { is_neighbour fleet.now.tree from to ≡ true }
+    ensures messages { IfOk result (λ messages. messages.items ≡ take max (pending fleet.now.tree from to (node_at nodes.now from))) }
+    ensures counted { IfOk result (λ messages. All IsCounted messages.items) }
 {
-    match nodes[from.0 as usize].pending(fleet, from, to, max) {
+    match nodes[from.index()].pending(fleet, from, to, max) {
         Ok(messages) => Ok(messages),
-        Err(_) => Err(AllocError),
+        Err(PendFault::NoMemory) => Err(AllocError),
+        Err(PendFault::NotNeighbour) => unreachable!(),
     }
 }
 
@@ -279,12 +279,13 @@ fn push_packets(
     packets: &mut Vec<Packet>,
     from: NodeId,
     to: NodeId,
-    messages: Vec<Message>,
+    messages: &[Message],
 ) -> Result<(), AllocError>
-    ensures { OnOk result (packets.new.items ≡ packets.old.items ++ map (network.packet from.0 to.0) messages.items) }
+    requires { All IsCounted messages.now }
+    ensures { OnOk result (packets.new.items ≡ packets.old.items ++ map (network.packet from to) messages.now) }
 {
     for message in messages {
-        packets.push(Packet::new(alloc, from, to, &message)?)?;
+        packets.push(Packet::new(alloc, from, to, message)?)?;
     }
     Ok(())
 }
@@ -293,8 +294,7 @@ fn push_packets(
 pub fn tell<K: Sink>(sink: &mut K, text: &[u8]) -> Result<(), StepFault>
     ensures ok { OnOk result (K.held sink.new ≡ appended (K.held sink.old) text.now) }
     ensures part { IsPart (K.held sink.old) (K.held sink.new) text.now }
-    ensures fault { IsErrOf result StepFault.WriteFault → Rose (K.faults sink.old) (K.faults sink.new) }
-    ensures later { K.faults sink.old ≤ K.faults sink.new }
+    ensures faults { CountsFaults (IsErrOf result StepFault.WriteFault) (K.faults sink.old) (K.faults sink.new) }
 {
     match sink.write(text) {
         Ok(()) => Ok(()),
@@ -305,11 +305,11 @@ pub fn tell<K: Sink>(sink: &mut K, text: &[u8]) -> Result<(), StepFault>
 
 // Each node as it starts.
 fn first_nodes(alloc: Global, fleet: &Fleet) -> Result<Vec<Node>, AllocError>
-    ensures { IfOk result (λ nodes. nodes.items ≡ map first_node fleet.now) }
+    ensures { IfOk result (λ nodes. nodes.items ≡ map first_node fleet.now.tree) }
 {
     let mut nodes = Vec::new(alloc);
     for i in 0..fleet.count() {
-        nodes.push(Node::start(alloc, fleet, NodeId(i))?)?;
+        nodes.push(Node::start(alloc, fleet, NodeId::new(i))?)?;
     }
     Ok(nodes)
 }

@@ -6,16 +6,8 @@ use Rattle.script_text.proofs.Drafts.{draft_goes_on}
 use Rattle.script_text.proofs.Refusals.{refused_line, refused_end, same_line, small_number}
 use Rattle.script_text.proofs.script.read_script.Goals as goal
 
-pub returns-then-not-branch-clause-refused : goal.returns-then-not-branch-clause-refused
-returns-then-not-branch-clause-refused c = λ line is other h.
-    let before = draft_lines c.loop-line.draft in
-    let whole = ap (λ l. before ++ l) (sym (c.in-Some.ensures {u = tt}).some) ∙ c.loop-line.invariant.lines in
-    let at = refused_line c.args.text.now before c.in-Some.line.now (lines_of c.in-Some.more.now) c.loop-line.number whole c.loop-line.invariant.count
-    (draft_goes_on c.loop-line.draft c.loop-line.invariant.draft) (rw c.if-not-branch.true at (c.in_ok-take.ensures {u = tt})) in
-    at.none other h
-
-pub returns-then-not-branch-clause-place : goal.returns-then-not-branch-clause-place
-returns-then-not-branch-clause-place c = λ line is.
+pub returns-then-not-branch-clause-not_yet : goal.returns-then-not-branch-clause-not_yet
+returns-then-not-branch-clause-not_yet c = λ line is.
     let P : ℕ → Type 0 = λ n. IsRefusedAt n c.args.text.now in
     let before = draft_lines c.loop-line.draft in
     let whole = ap (λ l. before ++ l) (sym (c.in-Some.ensures {u = tt}).some) ∙ c.loop-line.invariant.lines in
@@ -30,8 +22,8 @@ overflow_add-number c =
     let small = small_number c.args.text.now before c.in-Some.line.now (lines_of c.in-Some.more.now) c.loop-line.number whole c.loop-line.invariant.count c.requires in
     omega arith
 
-pub returns-in-None-clause-place : goal.returns-in-None-clause-place
-returns-in-None-clause-place c = λ line is.
+pub returns-in-None-clause-not_yet : goal.returns-in-None-clause-not_yet
+returns-in-None-clause-not_yet c = λ line is.
     let P : ℕ → Type 0 = λ n. IsRefusedAt n c.args.text.now in
     let before = draft_lines c.loop-line.draft in
     let whole = sym (append-nil before) ∙ ap (λ l. before ++ l) (sym (c.in_default.ensures {u = tt}).none) ∙ c.loop-line.invariant.lines in

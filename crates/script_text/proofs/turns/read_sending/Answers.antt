@@ -1,23 +1,24 @@
-use Rattle.script_text.proofs.Pairs.{pair_found, no_first, no_second, no_space}
-use Rattle.script_text.proofs.Readings.{sending_parts}
+use Rattle.script_text.proofs.Sendings.{sending_found, no_count, no_receiver, no_sender}
 use Rattle.script_text.proofs.turns.read_sending.Goals as goal
 
 pub returns-in_default : goal.returns-in_default
-returns-in_default c =
-    no_space (sending_parts c.args.ids.now.keys c.requires) c.args.text.now (c.in_default.ensures {u = tt}).none
+returns-in_default c = no_sender c.args.ids.now.keys c.requires c.args.text.now (c.in_default.ensures {u = tt}).none
 
-pub returns-in_default-node_of : goal.returns-in_default-node_of
-returns-in_default-node_of c =
-    let cut = (c.in-Some.ensures {u = tt}).some in
-    no_first (sending_parts c.args.ids.now.keys c.requires) c.in-Some.word.now c.in-Some.rest.now c.args.text.now cut.0 cut.1 (c.in_default-node_of.ensures {u = tt})
+pub returns-in_default-read_node : goal.returns-in_default-read_node
+returns-in_default-read_node c =
+    let from = (c.in-Some.ensures {u = tt}).some in
+    no_receiver c.args.ids.now.keys c.requires c.in-Some.from.0 c.args.text.now c.in-Some.from.1.now from.0 from.1 (c.in_default-read_node.ensures {u = tt}).none
 
 pub returns-in-Some-2 : goal.returns-in-Some-2
 returns-in-Some-2 c =
-    let cut = (c.in-Some.ensures {u = tt}).some in
-    pair_found (sending_parts c.args.ids.now.keys c.requires) c.in-Some-node_of.from c.in-Some-2.share c.in-Some.word.now c.in-Some.rest.now c.args.text.now cut.0 cut.1
-    (c.in-Some-node_of.ensures {u = tt}) (rw c.in-Some-2.is at (c.in_ok-share.ensures {u = tt}))
+    let from = (c.in-Some.ensures {u = tt}).some in
+    let to = (c.in-Some-read_node.ensures {u = tt}).some in
+    sending_found c.args.ids.now.keys c.requires c.in-Some.from.0 c.in-Some-read_node.to.0 c.in-Some-2.count c.args.text.now c.in-Some.from.1.now c.in-Some-read_node.to.1.now
+    from.0 from.1 to.0 to.1 (rw c.in-Some-2.is at (c.in_ok-count.ensures {u = tt}))
 
 pub returns-in-None : goal.returns-in-None
 returns-in-None c =
-    let cut = (c.in-Some.ensures {u = tt}).some in
-    no_second (sending_parts c.args.ids.now.keys c.requires) c.in-Some.word.now c.in-Some.rest.now c.args.text.now cut.0 cut.1 (rw c.in-None.is at (c.in_ok-share.ensures {u = tt}))
+    let from = (c.in-Some.ensures {u = tt}).some in
+    let to = (c.in-Some-read_node.ensures {u = tt}).some in
+    no_count c.args.ids.now.keys c.requires c.in-Some.from.0 c.in-Some-read_node.to.0 c.args.text.now c.in-Some.from.1.now c.in-Some-read_node.to.1.now
+    from.0 from.1 to.0 to.1 (rw c.in-None.is at (c.in_ok-count.ensures {u = tt}))

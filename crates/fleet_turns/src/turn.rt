@@ -1,3 +1,4 @@
+//! One turn.
 use node_core::Glob;
 use salt_value::{Jid, NodeId};
 
