@@ -125,3 +125,11 @@ fn as_many_minions_as_there_may_be(rt: HostRuntime) {
         is_refused_at(&rt, rt.alloc(), text.as_str(), *line);
     }
 }
+
+// A carriage return, which no row can have, belongs to its line.
+const RETURNED: &str = "%fleet\nnodes:\n- id: top\n  role: top\n%schedule\ndeliver 0\r\n%end\n";
+
+#[test]
+fn a_carriage_return_ends_no_line(rt: HostRuntime) {
+    is_refused_at(&rt, rt.alloc(), RETURNED, 6);
+}
