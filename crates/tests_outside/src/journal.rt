@@ -40,6 +40,18 @@ fn has(rt: &impl Abort, disk: &mut MemDisk, part: Part, bytes: &[u8]) {
     assert_eq!(rt; &into[..count], bytes);
 }
 
+// A read of the part gives the header of a limit of 64 bytes, and these bytes behind it.
+fn has_behind(rt: &impl Abort, disk: &mut MemDisk, part: Part, bytes: &[u8]) {
+    let mut header = [0; 16];
+    disk.read(part, 0, &mut header).expect(rt, FAILED);
+    let mut into = [0; 20];
+    let count = disk.read(part, 16, &mut into).expect(rt, FAILED);
+    assert_eq!(rt;
+        (header.as_slice(), &into[..count]),
+        (header_bytes(64).as_slice(), bytes)
+    );
+}
+
 // A load finds so many payloads.
 fn finds(
     rt: &impl Abort,
@@ -121,148 +133,28 @@ fn what_a_crash_leaves_of_a_create(rt: HostRuntime) {
     }
 }
 
-// The payload `ab` is added to a fresh journal: the rows are as those above.
+// The payload `ab` is added to a fresh journal: the rows are as those above, of what stands behind the header.
 static APPENDS: [(u64, u8, &[u8], [usize; 3], Result<usize, LoadFault>); 20] = [
-    (
-        0,
-        0x00,
-        b"SALTJNL1\0\0\0\0\0\0\0@\0\0\0\0\0\0\0\0",
-        [17, 18, 24],
-        Ok(0),
-    ),
-    (
-        0,
-        0x01,
-        b"SALTJNL1\0\0\0\0\0\0\0@\0\x01\x01\x01\x01\x01\x01\x01",
-        [17, 18, 24],
-        Ok(0),
-    ),
-    (
-        0,
-        0x07,
-        b"SALTJNL1\0\0\0\0\0\0\0@\0\x07\x07\x07\x07\x07\x07\x07",
-        [17, 18, 24],
-        Ok(0),
-    ),
-    (
-        0,
-        0xff,
-        b"SALTJNL1\0\0\0\0\0\0\0@\0\xff\xff\xff\xff\xff\xff\xff",
-        [17, 18, 24],
-        Ok(0),
-    ),
-    (
-        1,
-        0x00,
-        b"SALTJNL1\0\0\0\0\0\0\0@\0\0\0\0\0\0\0\0",
-        [17, 18, 24],
-        Ok(0),
-    ),
-    (
-        1,
-        0x01,
-        b"SALTJNL1\0\0\0\0\0\0\0@\0\x01\x01\x01\x01\x01\x01\x01",
-        [17, 18, 24],
-        Ok(0),
-    ),
-    (
-        1,
-        0x07,
-        b"SALTJNL1\0\0\0\0\0\0\0@\0\x07\x07\x07\x07\x07\x07\x07",
-        [17, 18, 24],
-        Ok(0),
-    ),
-    (
-        1,
-        0xff,
-        b"SALTJNL1\0\0\0\0\0\0\0@\0\xff\xff\xff\xff\xff\xff\xff",
-        [17, 18, 24],
-        Ok(0),
-    ),
-    (
-        2,
-        0x00,
-        b"SALTJNL1\0\0\0\0\0\0\0@\0\0\0\0\x02ab\0",
-        [24, 24, 24],
-        Ok(0),
-    ),
-    (
-        2,
-        0x01,
-        b"SALTJNL1\0\0\0\0\0\0\0@\x01\0\0\0\x02ab\0",
-        [24, 24, 24],
-        Ok(1),
-    ),
-    (
-        2,
-        0x07,
-        b"SALTJNL1\0\0\0\0\0\0\0@\x07\0\0\0\x02ab\0",
-        [24, 24, 24],
-        Ok(0),
-    ),
-    (
-        2,
-        0xff,
-        b"SALTJNL1\0\0\0\0\0\0\0@\xff\0\0\0\x02ab\0",
-        [24, 24, 24],
-        Ok(0),
-    ),
-    (
-        3,
-        0x00,
-        b"SALTJNL1\0\0\0\0\0\0\0@\0\0\0\0\x02ab\0",
-        [24, 24, 24],
-        Ok(0),
-    ),
-    (
-        3,
-        0x01,
-        b"SALTJNL1\0\0\0\0\0\0\0@\x01\0\0\0\x02ab\0",
-        [24, 24, 24],
-        Ok(1),
-    ),
-    (
-        3,
-        0x07,
-        b"SALTJNL1\0\0\0\0\0\0\0@\x07\0\0\0\x02ab\0",
-        [24, 24, 24],
-        Ok(0),
-    ),
-    (
-        3,
-        0xff,
-        b"SALTJNL1\0\0\0\0\0\0\0@\xff\0\0\0\x02ab\0",
-        [24, 24, 24],
-        Ok(0),
-    ),
-    (
-        4,
-        0x00,
-        b"SALTJNL1\0\0\0\0\0\0\0@\x01\0\0\0\x02ab\0",
-        [24, 24, 24],
-        Ok(1),
-    ),
-    (
-        4,
-        0x01,
-        b"SALTJNL1\0\0\0\0\0\0\0@\x01\0\0\0\x02ab\0",
-        [24, 24, 24],
-        Ok(1),
-    ),
-    (
-        4,
-        0x07,
-        b"SALTJNL1\0\0\0\0\0\0\0@\x01\0\0\0\x02ab\0",
-        [24, 24, 24],
-        Ok(1),
-    ),
-    (
-        4,
-        0xff,
-        b"SALTJNL1\0\0\0\0\0\0\0@\x01\0\0\0\x02ab\0",
-        [24, 24, 24],
-        Ok(1),
-    ),
+    (0, 0x00, b"\0\0\0\0\0\0\0\0", [1, 2, 8], Ok(0)),
+    (0, 0x01, b"\0\x01\x01\x01\x01\x01\x01\x01", [1, 2, 8], Ok(0)),
+    (0, 0x07, b"\0\x07\x07\x07\x07\x07\x07\x07", [1, 2, 8], Ok(0)),
+    (0, 0xff, b"\0\xff\xff\xff\xff\xff\xff\xff", [1, 2, 8], Ok(0)),
+    (1, 0x00, b"\0\0\0\0\0\0\0\0", [1, 2, 8], Ok(0)),
+    (1, 0x01, b"\0\x01\x01\x01\x01\x01\x01\x01", [1, 2, 8], Ok(0)),
+    (1, 0x07, b"\0\x07\x07\x07\x07\x07\x07\x07", [1, 2, 8], Ok(0)),
+    (1, 0xff, b"\0\xff\xff\xff\xff\xff\xff\xff", [1, 2, 8], Ok(0)),
+    (2, 0x00, b"\0\0\0\0\x02ab\0", [8, 8, 8], Ok(0)),
+    (2, 0x01, b"\x01\0\0\0\x02ab\0", [8, 8, 8], Ok(1)),
+    (2, 0x07, b"\x07\0\0\0\x02ab\0", [8, 8, 8], Ok(0)),
+    (2, 0xff, b"\xff\0\0\0\x02ab\0", [8, 8, 8], Ok(0)),
+    (3, 0x00, b"\0\0\0\0\x02ab\0", [8, 8, 8], Ok(0)),
+    (3, 0x01, b"\x01\0\0\0\x02ab\0", [8, 8, 8], Ok(1)),
+    (3, 0x07, b"\x07\0\0\0\x02ab\0", [8, 8, 8], Ok(0)),
+    (3, 0xff, b"\xff\0\0\0\x02ab\0", [8, 8, 8], Ok(0)),
+    (4, 0x00, b"\x01\0\0\0\x02ab\0", [8, 8, 8], Ok(1)),
+    (4, 0x01, b"\x01\0\0\0\x02ab\0", [8, 8, 8], Ok(1)),
+    (4, 0x07, b"\x01\0\0\0\x02ab\0", [8, 8, 8], Ok(1)),
+    (4, 0xff, b"\x01\0\0\0\x02ab\0", [8, 8, 8], Ok(1)),
 ];
 
 fn is_added(
@@ -299,7 +191,7 @@ fn what_a_crash_leaves_of_an_append(rt: HostRuntime) {
     for (passes, pick, left, lens, count) in &APPENDS {
         for (cut, len) in CUTS.iter().zip(lens.iter()) {
             let mut disk = append(&rt, alloc, *passes, *pick, *cut);
-            has(&rt, &mut disk, Part::Even, &left[..left.len().min(*len)]);
+            has_behind(&rt, &mut disk, Part::Even, &left[..left.len().min(*len)]);
             finds(&rt, alloc, &mut disk, Part::Even, *count);
         }
     }
@@ -504,6 +396,9 @@ fn stopped(rt: &impl Abort, alloc: Global, calls: u64) -> MemDisk {
     disk.arm(calls);
     let answer = journal.append(alloc, &mut disk, b"ab");
     is_added(rt, answer, journal.is_down(), Err(AppendFault::Disk));
+    if !journal.is_down() {
+        panic!(rt; "the journal is up");
+    }
     let again = journal.append(alloc, &mut disk, b"ab");
     is_added(rt, again, journal.is_down(), Err(AppendFault::Down));
     disk
@@ -518,6 +413,14 @@ fn a_journal_is_down_until_it_is_loaded_again(rt: HostRuntime) {
         disk.crash(*pick, *cut).expect(&rt, FAILED);
         finds(&rt, alloc, &mut disk, Part::Even, *count);
     }
+}
+
+// A crash, and then a create.
+fn create_after(disk: &mut MemDisk, part: Part) -> Result<(), CreateFault> {
+    if disk.crash(0, 0).is_err() {
+        return Err(CreateFault::NoMemory);
+    }
+    Journal::create(disk, part, 64)
 }
 
 // The bytes of a part at rest, and what a create on it answers.
@@ -535,9 +438,7 @@ fn a_part_that_is_not_empty(rt: HostRuntime) {
         let mut disk = MemDisk::new(rt.alloc());
         disk.write_at(Part::Odd, 0, bytes).expect(&rt, FAILED);
         disk.sync(Part::Odd).expect(&rt, FAILED);
-        disk.crash(0, 0).expect(&rt, FAILED);
-        let made = Journal::create(&mut disk, Part::Odd, 64);
-        is_created(&rt, made, *answer);
+        is_created(&rt, create_after(&mut disk, Part::Odd), *answer);
     }
 }
 
@@ -545,7 +446,7 @@ fn a_part_that_is_not_empty(rt: HostRuntime) {
 fn a_create_that_was_stopped_is_made_again(rt: HostRuntime) {
     let alloc = rt.alloc();
     let mut disk = create(&rt, alloc, 3, 7, 1000);
-    Journal::create(&mut disk, Part::Even, 64).expect(&rt, FAILED);
+    is_created(&rt, create_after(&mut disk, Part::Even), Ok(()));
     has(&rt, &mut disk, Part::Even, b"SALTJNL1\0\0\0\0\0\0\0@\0");
     finds(&rt, alloc, &mut disk, Part::Even, Ok(0));
 }

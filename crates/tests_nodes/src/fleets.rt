@@ -1,0 +1,270 @@
+//! Fleets: how they grow, and what they tell of their nodes.
+use crate::made::{FAILED, Sown, TREE, grown, id, pair, sow};
+use fleet_config::{Fleet, MOST_JOBS, NodeFault, Role};
+use salt_value::{MinionId, NodeId};
+use std::alloc::Global;
+use std::process::Abort;
+
+// Nodes that are added in order to a fleet, and what it answers: the place, or why it stays as it was.
+static GROWTH: [(Sown, Result<u32, NodeFault>); 22] = [
+    (("m1", Role::Minion, None), Err(NodeFault::NoTop)),
+    (("m1", Role::Syndic, Some(0)), Err(NodeFault::NoTop)),
+    (("top", Role::Top, Some(0)), Err(NodeFault::NoParent)),
+    (("top", Role::Top, None), Ok(0)),
+    (("top", Role::Top, None), Err(NodeFault::TwoTops)),
+    (("top", Role::Minion, None), Err(NodeFault::TwiceId)),
+    (("m1", Role::Minion, None), Err(NodeFault::NoParent)),
+    (("m1", Role::Minion, Some(1)), Err(NodeFault::NoParent)),
+    (("m1", Role::Minion, Some(0)), Ok(1)),
+    (("m2", Role::Minion, Some(1)), Err(NodeFault::NoParent)),
+    (("m1", Role::Syndic, Some(1)), Err(NodeFault::TwiceId)),
+    (("s2", Role::Syndic, Some(0)), Ok(2)),
+    (("s3", Role::Syndic, Some(2)), Ok(3)),
+    (("s4", Role::Syndic, Some(3)), Ok(4)),
+    (("s5", Role::Syndic, Some(4)), Ok(5)),
+    (("s6", Role::Syndic, Some(5)), Ok(6)),
+    (("s7", Role::Syndic, Some(6)), Ok(7)),
+    (("s8", Role::Syndic, Some(7)), Ok(8)),
+    (("m9", Role::Minion, Some(8)), Err(NodeFault::TooDeep)),
+    (("s9", Role::Syndic, Some(8)), Err(NodeFault::TooDeep)),
+    (("m8", Role::Minion, Some(7)), Ok(9)),
+    (("m9", Role::Minion, Some(0)), Ok(10)),
+];
+
+// Each answer, and one node more exactly after Ok.
+fn grows(rt: &impl Abort, fleet: &mut Fleet, rows: &[(Sown, Result<u32, NodeFault>)]) {
+    for ((text, role, parent), answer) in rows {
+        let before = fleet.count();
+        let node = id(rt, text);
+        let added = sow(fleet, node, *role, *parent);
+        let count = if answer.is_ok() { 1 } else { 0 };
+        assert_eq!(rt;
+            (added, fleet.count().saturating_sub(before)),
+            (*answer, count),
+            "{text}"
+        );
+    }
+}
+
+#[test]
+fn a_fleet_grows_node_by_node(rt: HostRuntime) {
+    let mut fleet = Fleet::new(rt.alloc());
+    grows(&rt, &mut fleet, &GROWTH);
+}
+
+// Adds nodes of this role under the top until one is refused: how many were added, and why no more.
+fn fill(
+    rt: &impl Abort,
+    alloc: Global,
+    fleet: &mut Fleet,
+    role: Role,
+    most: u32,
+) -> (u32, Result<u32, NodeFault>) {
+    for n in 0..most {
+        let text = format!(in alloc; "n{n}").expect(rt, FAILED);
+        let added = sow(fleet, id(rt, text.as_str()), role, Some(0));
+        if added.is_err() {
+            return (n, added);
+        }
+    }
+    (most, Ok(0))
+}
+
+// How many nodes of a role a fleet takes.
+static MOST: [(Role, u32); 2] = [(Role::Syndic, 256), (Role::Minion, 4096)];
+
+fn fills(rt: &impl Abort, alloc: Global, fleet: &mut Fleet, role: Role, most: u32) {
+    let filled = fill(rt, alloc, fleet, role, 5000);
+    assert_eq!(rt; filled, (most, Err(NodeFault::TooMany)));
+}
+
+#[test]
+fn a_fleet_has_256_syndics_and_4096_minions_at_most(rt: HostRuntime) {
+    for (role, most) in &MOST {
+        let mut fleet = grown(&rt, rt.alloc(), &TREE[..1]);
+        fills(&rt, rt.alloc(), &mut fleet, *role, *most);
+    }
+}
+
+fn limits(rt: &impl Abort, fleet: &Fleet, max_jobs: u32) {
+    assert_eq!(rt; fleet.max_jobs(), max_jobs);
+}
+
+#[test]
+fn a_fleet_says_how_many_jobs_its_top_holds(rt: HostRuntime) {
+    let mut fleet = Fleet::new(rt.alloc());
+    limits(&rt, &fleet, MOST_JOBS);
+    fleet.limit_jobs(2);
+    limits(&rt, &fleet, 2);
+}
+
+// The place of the node with this id, and 99 where there is none.
+fn place(fleet: &Fleet, id: &MinionId) -> u32 {
+    match fleet.find(id) {
+        Some(node) => node.place(),
+        None => 99,
+    }
+}
+
+fn finds(rt: &impl Abort, fleet: &Fleet, rows: &[(&str, u32)]) {
+    for (text, at) in rows {
+        assert_eq!(rt; place(fleet, &id(rt, text)), *at, "{text}");
+    }
+}
+
+static PAIR_PLACES: [(&str, u32); 5] = [("top", 0), ("m2", 1), ("m1", 2), ("m3", 99), ("m", 99)];
+
+static TREE_PLACES: [(&str, u32); 7] = [
+    ("top", 0),
+    ("sa", 1),
+    ("m1", 2),
+    ("sb", 3),
+    ("m2", 4),
+    ("m3", 5),
+    ("s", 99),
+];
+
+#[test]
+fn nodes_are_found_by_their_ids(rt: HostRuntime) {
+    finds(&rt, &pair(&rt, rt.alloc()), &PAIR_PLACES);
+    finds(&rt, &grown(&rt, rt.alloc(), &TREE), &TREE_PLACES);
+}
+
+// Is this the node's id, role and parent?
+fn is_node(fleet: &Fleet, place: u32, id: &str, role: Role, parent: u32) -> bool {
+    if place >= fleet.count() {
+        return false;
+    }
+    let node = NodeId::new(place);
+    let is_id = fleet.id(node).as_str() == id && fleet.id_bytes(node) == id.as_bytes();
+    let is_role = fleet.role(node) == role && fleet.is_minion(node) == (role == Role::Minion);
+    is_id && is_role && fleet.parent(node).place() == parent
+}
+
+fn has_nodes(rt: &impl Abort, fleet: &Fleet, rows: &[(u32, &str, Role, u32)]) {
+    assert_eq!(rt; fleet.count() as usize, rows.len());
+    for (place, id, role, parent) in rows {
+        assert!(rt; is_node(fleet, *place, id, *role, *parent), "{id}");
+    }
+}
+
+static PAIR_NODES: [(u32, &str, Role, u32); 3] = [
+    (0, "top", Role::Top, 0),
+    (1, "m2", Role::Minion, 0),
+    (2, "m1", Role::Minion, 0),
+];
+
+static TREE_NODES: [(u32, &str, Role, u32); 6] = [
+    (0, "top", Role::Top, 0),
+    (1, "sa", Role::Syndic, 0),
+    (2, "m1", Role::Minion, 1),
+    (3, "sb", Role::Syndic, 1),
+    (4, "m2", Role::Minion, 3),
+    (5, "m3", Role::Minion, 0),
+];
+
+#[test]
+fn nodes_are_told_by_their_places(rt: HostRuntime) {
+    has_nodes(&rt, &pair(&rt, rt.alloc()), &PAIR_NODES);
+    has_nodes(&rt, &grown(&rt, rt.alloc(), &TREE), &TREE_NODES);
+}
+
+fn ends_before(rt: &impl Abort, fleet: &Fleet, place: u32) {
+    let node = NodeId::new(place);
+    assert_eq!(rt;
+        (fleet.id_bytes(node).len(), fleet.is_minion(node)),
+        (0, false)
+    );
+}
+
+#[test]
+fn past_the_end_there_is_no_node(rt: HostRuntime) {
+    ends_before(&rt, &Fleet::new(rt.alloc()), 0);
+    ends_before(&rt, &pair(&rt, rt.alloc()), 3);
+    ends_before(&rt, &grown(&rt, rt.alloc(), &TREE), 6);
+}
+
+// Whether a node is the parent of another one, its branch towards that one, and whether that one lies within it.
+fn way(fleet: &Fleet, node: u32, other: u32) -> (bool, u32, bool) {
+    if other >= fleet.count() {
+        return (false, 99, false);
+    }
+    let (node, other) = (NodeId::new(node), NodeId::new(other));
+    let is_parent = fleet.is_parent(node, other);
+    let branch = fleet.branch(node, other).place();
+    (is_parent, branch, fleet.is_within(node, other))
+}
+
+fn leads(rt: &impl Abort, fleet: &Fleet, rows: &[(u32, u32, (bool, u32, bool))]) {
+    for (node, other, wanted) in rows {
+        assert_eq!(rt; way(fleet, *node, *other), *wanted, "{node} to {other}");
+    }
+}
+
+static PAIR_WAYS: [(u32, u32, (bool, u32, bool)); 7] = [
+    (0, 0, (false, 0, true)),
+    (0, 1, (true, 1, true)),
+    (0, 2, (true, 2, true)),
+    (1, 0, (false, 0, false)),
+    (1, 1, (false, 0, true)),
+    (1, 2, (false, 0, false)),
+    (2, 1, (false, 0, false)),
+];
+
+static TREE_WAYS: [(u32, u32, (bool, u32, bool)); 12] = [
+    (0, 1, (true, 1, true)),
+    (0, 2, (false, 1, true)),
+    (0, 4, (false, 1, true)),
+    (0, 5, (true, 5, true)),
+    (1, 2, (true, 2, true)),
+    (1, 4, (false, 3, true)),
+    (1, 5, (false, 0, false)),
+    (1, 0, (false, 0, false)),
+    (3, 4, (true, 4, true)),
+    (3, 2, (false, 0, false)),
+    (3, 3, (false, 0, true)),
+    (4, 3, (false, 0, false)),
+];
+
+#[test]
+fn nodes_lie_below_their_masters(rt: HostRuntime) {
+    leads(&rt, &pair(&rt, rt.alloc()), &PAIR_WAYS);
+    leads(&rt, &grown(&rt, rt.alloc(), &TREE), &TREE_WAYS);
+}
+
+fn are(rt: &impl Abort, found: &[NodeId], places: &[u32]) {
+    assert_eq!(rt; found.len(), places.len());
+    for (node, place) in found.iter().zip(places.iter()) {
+        assert_eq!(rt; node.place(), *place);
+    }
+}
+
+fn has_minions(rt: &impl Abort, alloc: Global, fleet: &Fleet, rows: &[(u32, &[u32])]) {
+    for (place, minions) in rows {
+        let found = fleet.minions(alloc, NodeId::new(*place)).expect(rt, FAILED);
+        are(rt, found.as_slice(), minions);
+    }
+}
+
+static PAIR_MINIONS: [(u32, &[u32]); 4] = [(0, &[1, 2]), (1, &[1]), (2, &[2]), (3, &[])];
+
+static TREE_MINIONS: [(u32, &[u32]); 7] = [
+    (0, &[2, 4, 5]),
+    (1, &[2, 4]),
+    (2, &[2]),
+    (3, &[4]),
+    (4, &[4]),
+    (5, &[5]),
+    (6, &[]),
+];
+
+#[test]
+fn minions_at_or_below_a_node(rt: HostRuntime) {
+    has_minions(&rt, rt.alloc(), &pair(&rt, rt.alloc()), &PAIR_MINIONS);
+    has_minions(
+        &rt,
+        rt.alloc(),
+        &grown(&rt, rt.alloc(), &TREE),
+        &TREE_MINIONS,
+    );
+}

@@ -1,0 +1,15 @@
+//! Tests of fleet_config and node_core, by their public calls alone.
+#![tactic(auto)]
+
+#[cfg(test)]
+mod fleets;
+#[cfg(test)]
+mod made;
+#[cfg(test)]
+mod nodes;
+#[cfg(test)]
+mod steps;
+#[cfg(test)]
+mod syndics;
+#[cfg(test)]
+mod targets;

@@ -1,0 +1,277 @@
+//! The nodes of a flat fleet, step by step. The expectations are worked out by hand from the rules of a call.
+use crate::made::{FAILED, pair, target};
+use crate::steps::{Asked, Reply, Sent, Step, has_jobs, has_returns, takes, tells};
+use fleet_config::Fleet;
+use node_core::{Glob, Node, PendFault, PublishFault, Stray, TakeFault};
+use salt_value::NodeId;
+use std::alloc::Global;
+use std::process::Abort;
+
+// How many of so many publications are accepted before one is refused.
+fn publish(top: &mut Node, fleet: &Fleet, tgt: &Glob, count: u32) -> u32 {
+    for done in 0..count {
+        if top.publish(fleet, 7, tgt).is_err() {
+            return done;
+        }
+    }
+    count
+}
+
+// A top that published so many jobs.
+fn published(rt: &impl Abort, alloc: Global, fleet: &Fleet, tgt: &str, count: u32) -> Node {
+    let mut top = Node::start(alloc, fleet, NodeId::TOP).expect(rt, FAILED);
+    publish(&mut top, fleet, &target(rt, alloc, tgt), count);
+    top
+}
+
+static MINION: [Step; 13] = [
+    (0, Sent::Pub(1, 7), Reply::Jobs(0)),
+    (0, Sent::Pub(0, 7), Reply::Jobs(1)),
+    (0, Sent::Pub(0, 7), Reply::Jobs(1)),
+    (0, Sent::Pub(1, 7), Reply::Jobs(2)),
+    (0, Sent::Pub(65_534, 7), Reply::Jobs(2)),
+    (0, Sent::Pub(65_535, 7), Reply::Refused(Stray::WrongWay)),
+    (1, Sent::Pub(2, 7), Reply::Refused(Stray::NotNeighbour)),
+    (2, Sent::Pub(2, 7), Reply::Refused(Stray::NotNeighbour)),
+    (0, Sent::Have(0), Reply::Refused(Stray::WrongWay)),
+    (0, Sent::Start("m2", 0), Reply::Refused(Stray::WrongWay)),
+    (0, Sent::UpHave("m1", 0), Reply::Refused(Stray::NotBelow)),
+    (
+        0,
+        Sent::UpHave("m2", 4),
+        Reply::Refused(Stray::AheadUps { n: 4, have: 3 }),
+    ),
+    (0, Sent::UpHave("m2", 3), Reply::Nothing),
+];
+
+#[test]
+fn a_minion_takes_each_job_once_and_in_order(rt: HostRuntime) {
+    let alloc = rt.alloc();
+    let fleet = pair(&rt, alloc);
+    let mut node = Node::start(alloc, &fleet, NodeId::new(1)).expect(&rt, FAILED);
+    takes(&rt, alloc, &mut node, &fleet, 1, &MINION);
+    // it has run them, and keeps none
+    has_jobs(&rt, &node, 0);
+}
+
+static TOP: [Step; 13] = [
+    (1, Sent::Start("m2", 1), Reply::Entries(0)),
+    (1, Sent::Start("m2", 0), Reply::Entries(1)),
+    (1, Sent::Start("m2", 0), Reply::Entries(1)),
+    (
+        1,
+        Sent::Return("m2", 1, 2),
+        Reply::Refused(Stray::UnknownJob { seq: 2 }),
+    ),
+    (1, Sent::Return("m2", 1, 1), Reply::Entries(2)),
+    (1, Sent::Return("m2", 2, 1), Reply::Refused(Stray::WrongWay)),
+    (1, Sent::Start("m1", 0), Reply::Refused(Stray::NotBelow)),
+    (0, Sent::Start("m1", 0), Reply::Refused(Stray::NotNeighbour)),
+    (
+        1,
+        Sent::Have(3),
+        Reply::Refused(Stray::AheadJobs { n: 3, have: 2 }),
+    ),
+    (1, Sent::Have(2), Reply::Nothing),
+    (9, Sent::Have(0), Reply::Refused(Stray::NotNeighbour)),
+    (1, Sent::Pub(2, 7), Reply::Refused(Stray::WrongWay)),
+    (1, Sent::UpHave("m2", 0), Reply::Refused(Stray::WrongWay)),
+];
+
+static TOP_RETURNS: [(&str, u32, bool); 3] = [("m2", 1, true), ("m2", 0, false), ("m1", 1, false)];
+
+#[test]
+fn a_top_takes_each_entry_once_and_in_order(rt: HostRuntime) {
+    let alloc = rt.alloc();
+    let fleet = pair(&rt, alloc);
+    let mut top = published(&rt, alloc, &fleet, "*", 2);
+    takes(&rt, alloc, &mut top, &fleet, 0, &TOP);
+    has_returns(&rt, &top, &TOP_RETURNS);
+}
+
+static FIRST_JOB: [Step; 1] = [(0, Sent::Pub(0, 7), Reply::Jobs(1))];
+
+// the count of jobs, the start and the return
+static UPWARD: [Asked; 5] = [(0, 9, 3), (0, 2, 2), (0, 0, 0), (1, 9, 99), (2, 9, 99)];
+
+static FIRST_ENTRY: [Step; 1] = [(0, Sent::UpHave("m1", 1), Reply::Nothing)];
+
+static UPWARD_LATER: [Asked; 1] = [(0, 9, 2)];
+
+#[test]
+fn a_minion_tells_its_count_and_then_its_entries(rt: HostRuntime) {
+    let alloc = rt.alloc();
+    let fleet = pair(&rt, alloc);
+    let mut node = Node::start(alloc, &fleet, NodeId::new(2)).expect(&rt, FAILED);
+    takes(&rt, alloc, &mut node, &fleet, 2, &FIRST_JOB);
+    tells(&rt, &node, &fleet, 2, &UPWARD);
+    takes(&rt, alloc, &mut node, &fleet, 2, &FIRST_ENTRY);
+    tells(&rt, &node, &fleet, 2, &UPWARD_LATER);
+}
+
+static TWO_JOBS: [Step; 1] = [(1, Sent::Have(2), Reply::Nothing)];
+
+// the third job for the child that has two, and three jobs for the other one
+static DOWNWARD: [Asked; 5] = [(1, 9, 1), (2, 9, 3), (2, 2, 2), (0, 9, 99), (3, 9, 99)];
+
+#[test]
+fn a_top_tells_each_child_the_jobs_it_lacks(rt: HostRuntime) {
+    let alloc = rt.alloc();
+    let fleet = pair(&rt, alloc);
+    let mut top = published(&rt, alloc, &fleet, "m?", 3);
+    has_jobs(&rt, &top, 3);
+    takes(&rt, alloc, &mut top, &fleet, 0, &TWO_JOBS);
+    tells(&rt, &top, &fleet, 0, &DOWNWARD);
+}
+
+// The text of the jid of a publication.
+fn jid_text(
+    top: &mut Node,
+    fleet: &Fleet,
+    moment: u64,
+    tgt: &Glob,
+) -> Result<[u8; 20], PublishFault> {
+    match top.publish(fleet, moment, tgt) {
+        Ok(jid) => Ok(jid.text()),
+        Err(fault) => Err(fault),
+    }
+}
+
+// Publications at these moments, and the jid of each or its fault.
+fn publishes(
+    rt: &impl Abort,
+    top: &mut Node,
+    fleet: &Fleet,
+    tgt: &Glob,
+    rows: &[(u64, Result<[u8; 20], PublishFault>)],
+) {
+    for (moment, jid) in rows {
+        assert_eq!(rt; jid_text(top, fleet, *moment, tgt), *jid);
+    }
+}
+
+static LAST_JIDS: [(u64, Result<[u8; 20], PublishFault>); 3] = [
+    (253402300800000000, Err(PublishFault::JidEnd)),
+    (253402300799999999, Ok(*b"99991231235959999999")),
+    (7, Err(PublishFault::JidEnd)),
+];
+
+#[test]
+fn publications_end_at_the_last_jid(rt: HostRuntime) {
+    let alloc = rt.alloc();
+    let fleet = pair(&rt, alloc);
+    let mut top = published(&rt, alloc, &fleet, "*", 0);
+    publishes(&rt, &mut top, &fleet, &target(&rt, alloc, "*"), &LAST_JIDS);
+    has_jobs(&rt, &top, 1);
+}
+
+static FULL: [(u64, Result<[u8; 20], PublishFault>); 1] = [(
+    7,
+    Err(PublishFault::JobsFull { max: 65_535 }),
+)];
+
+#[test]
+fn publications_end_at_65535_jobs(rt: HostRuntime) {
+    let alloc = rt.alloc();
+    let fleet = pair(&rt, alloc);
+    let mut top = published(&rt, alloc, &fleet, "*", 65_600);
+    has_jobs(&rt, &top, 65_535);
+    publishes(&rt, &mut top, &fleet, &target(&rt, alloc, "*"), &FULL);
+}
+
+static FULL_AT_2: [(u64, Result<[u8; 20], PublishFault>); 1] = [(
+    7,
+    Err(PublishFault::JobsFull { max: 2 }),
+)];
+
+#[test]
+fn publications_end_where_the_fleet_says(rt: HostRuntime) {
+    let alloc = rt.alloc();
+    let mut fleet = pair(&rt, alloc);
+    fleet.limit_jobs(2);
+    let mut top = published(&rt, alloc, &fleet, "*", 9);
+    has_jobs(&rt, &top, 2);
+    publishes(&rt, &mut top, &fleet, &target(&rt, alloc, "*"), &FULL_AT_2);
+}
+
+static STRAY_TEXTS: [(Stray, &str); 6] = [
+    (
+        Stray::NotNeighbour,
+        "the sender is neither the parent nor a child",
+    ),
+    (
+        Stray::WrongWay,
+        "the message is not one that this sender may send here",
+    ),
+    (Stray::NotBelow, "the minion does not lie below"),
+    (Stray::AheadJobs { n: 3, have: 2 }, "3 jobs are told, of 2"),
+    (
+        Stray::AheadUps { n: 4, have: 3 },
+        "4 entries are told, of 3",
+    ),
+    (
+        Stray::UnknownJob { seq: 2 },
+        "the entry names the job 2, which is not held",
+    ),
+];
+
+static PUBLISH_TEXTS: [(PublishFault, &str); 3] = [
+    (PublishFault::JobsFull { max: 2 }, "2 jobs are held"),
+    (PublishFault::JidEnd, "no later job id is left"),
+    (PublishFault::NoMemory, "no memory was found"),
+];
+
+static PEND_TEXTS: [(PendFault, &str); 2] = [
+    (
+        PendFault::NotNeighbour,
+        "the peer is neither the parent nor a child",
+    ),
+    (PendFault::NoMemory, "no memory was found"),
+];
+
+static TAKE_TEXTS: [(TakeFault, &str); 2] = [
+    (
+        TakeFault::Stray {
+            cause: Stray::NotBelow,
+        },
+        "the message is stray: the minion does not lie below",
+    ),
+    (TakeFault::NoMemory, "no memory was found"),
+];
+
+fn says(rt: &impl Abort, said: &str, text: &str) {
+    assert_eq!(rt; said, text);
+}
+
+#[test]
+fn faults_have_texts(rt: HostRuntime) {
+    let alloc = rt.alloc();
+    for (fault, text) in &STRAY_TEXTS {
+        says(
+            &rt,
+            fault.to_string(alloc).expect(&rt, FAILED).as_str(),
+            text,
+        );
+    }
+    for (fault, text) in &PUBLISH_TEXTS {
+        says(
+            &rt,
+            fault.to_string(alloc).expect(&rt, FAILED).as_str(),
+            text,
+        );
+    }
+    for (fault, text) in &PEND_TEXTS {
+        says(
+            &rt,
+            fault.to_string(alloc).expect(&rt, FAILED).as_str(),
+            text,
+        );
+    }
+    for (fault, text) in &TAKE_TEXTS {
+        says(
+            &rt,
+            fault.to_string(alloc).expect(&rt, FAILED).as_str(),
+            text,
+        );
+    }
+}
