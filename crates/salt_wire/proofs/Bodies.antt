@@ -1,12 +1,12 @@
 -- Whole bodies, and fields at a place of a body.
-use Rattle.std.proofs.Common.{◌≡◌, ◌⊎◌, inl, inr, ℕ, suc, ◌+◌, ◌-◌, ◌≤◌, Bool, true, false, cond, eqb, List, [], ◌∷◌, ◌++◌, length, take, drop, Result, Ok, Err, refl, sym, ap, subst, ◌∙◌, arith, length-append, length-drop}
+use Rattle.std.proofs.Common.{◌≡◌, inl, inr, ℕ, suc, ◌+◌, ◌-◌, ◌≤◌, Bool, true, false, cond, eqb, List, [], ◌∷◌, ◌++◌, length, take, drop, Result, Ok, Err, refl, sym, ap, subst, ◌∙◌, arith, length-append, length-drop}
 use Rattle.std.specs.Prelude.{IfOk, IfErr, ◌≢◌}
 use Rattle.std.proofs.lemmas.Bool.{eqb-true}
 use Rattle.std.proofs.lemmas.List.{append-nil, get_or-drop, take_all}
 use Rattle.salt_value.specs.Readers.{◌>>=◌, Reader, Gives, Answers}
 use Rattle.salt_value.specs.Decoding.{IsBytes}
 use Rattle.salt_wire.specs.declared.fault.Misread.{Misread}
-use Rattle.salt_wire.specs.declared.fault.Misread.TheVariants.{NoMemory, BadVersion, BadKind, BadField, Trailing}
+use Rattle.salt_wire.specs.declared.fault.Misread.TheVariants.{NoMemory, BadVersion, Trailing}
 use Rattle.salt_wire.specs.declared.fault.WireFault.{WireFault}
 use Rattle.salt_wire.specs.declared.fault.WireFault.TheVariants as faults
 use Rattle.salt_wire.specs.declared.message.Message.{Message}

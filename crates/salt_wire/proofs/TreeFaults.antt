@@ -15,11 +15,11 @@ use Rattle.salt_wire.specs.declared.tree.Room.{Room}
 use Rattle.salt_wire.specs.Spelling.{id}
 use Rattle.salt_wire.specs.Limits.{is_id}
 use Rattle.salt_wire.specs.Decoding.{bad, id_or, ends_before, is_text_tag, is_pattern_tag, room_after, with_room, tag_field, leaf_text, leaf_ids, leaf, text_node, list_node, not_node, and_node, or_node, node_after, tree_at, whole_room, tree_field}
-use Rattle.salt_wire.specs.FirstFault.{After, LeafText, LeafIds, Subtrees, NoNode, after, is_node, subtrees, AreIds, IsAfter, Node, nodes_bytes, pattern_leaves, Unended, InLimits, NodeWrong, NodesWrong, TreeWrong}
+use Rattle.salt_wire.specs.FirstFault.{IsTold, After, LeafText, LeafIds, Subtrees, NoNode, after, is_node, subtrees, AreIds, IsAfter, Node, nodes_bytes, pattern_leaves, Unended, InLimits, NodeWrong, NodesWrong, TreeWrong}
 use Rattle.salt_wire.proofs.Codec.{Lower, bind_ok, ok_is}
 use Rattle.salt_wire.proofs.WriteLemmas.{both_true}
 use Rattle.salt_wire.proofs.TreeBack.{made, cost, TagTook, leaf_text_written, leaf_ids_written, tag_written, tag_took, leaf_text_took, leaf_ids_took, tree_took}
-use Rattle.salt_wire.proofs.FirstFaults.{never, err_is, bind_err, IsBytes-rest, IsBytes-after, Only, good, fault, both, test, number_only, text_only, counted_only, heads, IsTold}
+use Rattle.salt_wire.proofs.FirstFaults.{never, err_is, bind_err, IsBytes-rest, IsBytes-after, Only, good, fault, both, test, number_only, text_only, counted_only, heads}
 
 -- ---- what stands after a tag
 

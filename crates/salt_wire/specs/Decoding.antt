@@ -1,5 +1,5 @@
 -- Decoding from left to right, as a function: what stands at the front of some bytes, and the bytes after it, or the first fault.
-use Rattle.std.specs.Prelude.{◌≡◌, ℕ, zero, suc, ◌-◌, ◌&&◌, ◌||◌, nat_le, nat_lt, ◌==◌, if◌then◌else◌, Bool, List, [], ◌∷◌, length, take, drop, Option, Some, None, Result, Ok, Err}
+use Rattle.std.specs.Prelude.{ℕ, zero, suc, ◌-◌, ◌&&◌, ◌||◌, nat_le, nat_lt, ◌==◌, if◌then◌else◌, Bool, List, [], ◌∷◌, length, take, drop, Option, Some, None, Result, Ok, Err}
 use Rattle.std.specs.List.{list_all, find}
 use Rattle.std.specs.Int.{Width, w8, w16, w32, w64}
 use Rattle.salt_value.specs.Readers.{Reader, ◌>>=◌, when, found, several}

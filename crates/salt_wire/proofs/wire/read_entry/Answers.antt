@@ -4,7 +4,7 @@ use Rattle.salt_wire.specs.Spelling.{entry}
 use Rattle.salt_value.specs.Readers.{Answers}
 use Rattle.salt_value.specs.Decoding.{IsBytes}
 use Rattle.salt_wire.specs.declared.fault.WireFault.TheVariants as faults
-use Rattle.salt_wire.specs.FirstFault.{FieldWrong, FirstWrong, Entry, Word, job_fields}
+use Rattle.salt_wire.specs.FirstFault.{FieldWrong, Entry}
 use Rattle.salt_wire.specs.Decoding.{field_at, entry_field}
 use Rattle.salt_wire.proofs.Bodies.{is_field, field_again, field_took, fault_at, met_at}
 use Rattle.salt_wire.proofs.wire.read_entry.Goals as goal
