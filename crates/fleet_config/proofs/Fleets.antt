@@ -6,8 +6,8 @@ use Rattle.std.proofs.lemmas.Slice.Eq.{bytes_eq-Decides}
 use Rattle.std.proofs.lemmas.List.{length-map}
 use Rattle.fleet_config.specs.declared.fleet.Member.{Member}
 use Rattle.fleet_config.specs.declared.fleet.Role.TheVariants as role
-use Rattle.fleet_config.specs.Limits.{most_minions, most_syndics, most_levels}
-use Rattle.fleet_config.specs.Tree.{Tree, IsTree, flat_tree, minion_of, id_of, member, parent_of, runs_jobs, is_syndic, minion_count, syndic_count, level, level_by}
+use Rattle.fleet_config.specs.Limits.{most_minions, most_levels}
+use Rattle.fleet_config.specs.Tree.{IsTree, flat_tree, minion_of, id_of, member, parent_of, minion_count, syndic_count, level, level_by}
 use Rattle.fleet_config.proofs.Trees.{level_top, level_on}
 
 ids_in : (xs : List (List ℕ)) → map (λ (m : Member). m.id) (map minion_of xs) ≡ xs

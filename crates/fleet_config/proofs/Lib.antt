@@ -1,5 +1,7 @@
 pub mod Walk
 pub mod Trees
+pub mod Levels
 pub mod Places
 pub mod Fleets
 pub mod Owns
+pub mod Growth

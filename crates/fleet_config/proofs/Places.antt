@@ -1,11 +1,12 @@
 -- The place of an id, one node after the other.
-use Rattle.std.proofs.Common.{◌≡◌, ℕ, zero, suc, ◌+◌, ◌∙◌, sym, ap, refl, subst, Bool, true, false, cond, List, [], ◌∷◌, map, take, Option, None, Some, unwrap_or, slice_get, bytes_eq, arith}
+use Rattle.std.proofs.Common.{◌≡◌, ℕ, zero, suc, ◌+◌, ◌∙◌, sym, ap, refl, subst, Bool, true, false, cond, List, [], ◌∷◌, ◌++◌, ◌<◌, length, map, take, Option, None, Some, unwrap_or, slice_get, bytes_eq, arith}
 use Rattle.std.specs.List.{AllByRecursion, IsDistinct, position_from, position}
 use Rattle.std.proofs.lemmas.Map.Keys.{IsDistinct-head, IsDistinct-tail}
 use Rattle.std.proofs.lemmas.Slice.Eq.{bytes_eq-Decides}
 use Rattle.std.proofs.lemmas.Iterator.Adapters.{position_from-zero}
 use Rattle.fleet_config.specs.declared.fleet.Member.{Member}
-use Rattle.fleet_config.specs.Tree.{Tree}
+use Rattle.std.specs.Prelude.{is_none}
+use Rattle.fleet_config.specs.Tree.{Tree, id_of}
 
 pub same_some : {X : Type 0} (a b : X) → Some a ≡ Some b → a ≡ b
 same_some {X} a b e = ap (λ (o : Option X). unwrap_or o a) e
@@ -65,3 +66,42 @@ place_more ms i q x e d =
     subst (λ j. position_from test 0 (take (suc i) ms) ≡ cond (bytes_eq x.id q) (Some j) (position_from test 0 (take i ms))) zero_on (place_from 0 ms i q x e d) in
     subst (λ n. position test (take n ms) ≡ cond (bytes_eq x.id q) (Some i) (position test (take i ms))) (sym more)
     (position_from-zero test (take (suc i) ms) ∙ told ∙ ap (λ (o : Option ℕ). cond (bytes_eq x.id q) (Some i) o) (sym (position_from-zero test (take i ms))))
+
+-- no node has an id that is not found
+none_case : (b : Bool) (k : ℕ) (o : Option ℕ) → cond b (Some k) o ≡ None → (b ≡ false) × (o ≡ None)
+none_case true k o h = absurd (cc)
+none_case false k o h = (refl, h)
+
+pub none_of : (o : Option ℕ) → is_none o ≡ true → o ≡ None
+none_of None h = refl
+none_of (Some k) h = absurd (cc)
+
+none_from : (k : ℕ) (t : Tree) (q : List ℕ) → position_from (λ (m : Member). bytes_eq m.id q) k t ≡ None → (i : ℕ) → i < length t → bytes_eq (id_of t i) q ≡ false
+none_from k [] q h i l = absurd (omega arith)
+none_from k (m ∷ ms) q h zero l = (none_case (bytes_eq m.id q) k _ h).0
+none_from k (m ∷ ms) q h (suc i) l = none_from (k + 1) ms q (none_case (bytes_eq m.id q) k _ h).1 i (omega arith)
+
+pub none_differs : (t : Tree) (q : List ℕ) → position (λ (m : Member). bytes_eq m.id q) t ≡ None → (i : ℕ) → i < length t → bytes_eq (id_of t i) q ≡ false
+none_differs t q h = none_from 0 t q (sym (position_from-zero (λ (m : Member). bytes_eq m.id q) t) ∙ h)
+
+push_from : (k : ℕ) (ms : Tree) (x : Member) (q : List ℕ) → position_from (λ (m : Member). bytes_eq m.id x.id) k ms ≡ None
+    → position_from (λ (m : Member). bytes_eq m.id q) k (ms ++ x ∷ []) ≡ cond (bytes_eq x.id q) (Some (k + length ms)) (position_from (λ (m : Member). bytes_eq m.id q) k ms)
+push_from k [] x q h = let n : k + length {A = Member} [] ≡ k = omega arith in rw n refl
+push_from k (m ∷ ms) x q h =
+    let none = none_case (bytes_eq m.id x.id) k _ h in
+    let n : k + 1 + length ms ≡ k + length (m ∷ ms) = omega arith in
+    let rest = push_from (k + 1) ms x q none.1 in
+    let told : position_from (λ (y : Member). bytes_eq y.id q) (k + 1) (ms ++ x ∷ []) ≡ cond (bytes_eq x.id q) (Some (k + length (m ∷ ms))) (position_from (λ (y : Member). bytes_eq y.id q) (k + 1) ms) =
+    subst (λ j. position_from (λ (y : Member). bytes_eq y.id q) (k + 1) (ms ++ x ∷ []) ≡ cond (bytes_eq x.id q) (Some j) (position_from (λ (y : Member). bytes_eq y.id q) (k + 1) ms)) n rest in
+    place_case k (k + length (m ∷ ms)) m x q (position_from (λ (y : Member). bytes_eq y.id q) (k + 1) (ms ++ x ∷ [])) (position_from (λ (y : Member). bytes_eq y.id q) (k + 1) ms) told none.0 (bytes_eq m.id q) refl
+
+-- the places with a node more, whose id is not there
+pub place_push : (t : Tree) (x : Member) (q : List ℕ) → position (λ (m : Member). bytes_eq m.id x.id) t ≡ None
+    → position (λ (m : Member). bytes_eq m.id q) (t ++ x ∷ []) ≡ cond (bytes_eq x.id q) (Some (length t)) (position (λ (m : Member). bytes_eq m.id q) t)
+place_push t x q h =
+    let test : Member → Bool = λ m. bytes_eq m.id q in
+    let n : 0 + length t ≡ length t = omega arith in
+    let none : position_from (λ (m : Member). bytes_eq m.id x.id) 0 t ≡ None = sym (position_from-zero (λ (m : Member). bytes_eq m.id x.id) t) ∙ h in
+    let told : position_from test 0 (t ++ x ∷ []) ≡ cond (bytes_eq x.id q) (Some (length t)) (position_from test 0 t) =
+    subst (λ j. position_from test 0 (t ++ x ∷ []) ≡ cond (bytes_eq x.id q) (Some j) (position_from test 0 t)) n (push_from 0 t x q none) in
+    position_from-zero test (t ++ x ∷ []) ∙ told ∙ ap (λ (o : Option ℕ). cond (bytes_eq x.id q) (Some (length t)) o) (sym (position_from-zero test t))

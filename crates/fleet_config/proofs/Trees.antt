@@ -1,11 +1,11 @@
 -- What a tree says of its nodes, and of how many there are.
-use Rattle.std.proofs.Common.{◌≡◌, ◌≢◌, ℕ, zero, suc, ◌+◌, ◌<◌, ◌≤◌, ◌∙◌, sym, ap, refl, subst, inl, inr, true, false, [], ◌∷◌, length, filter, arith, if◌then◌else◌}
+use Rattle.std.proofs.Common.{◌≡◌, ℕ, zero, suc, ◌+◌, ◌<◌, ◌≤◌, refl, inl, inr, [], ◌∷◌, length, arith}
 use Rattle.std.proofs.lemmas.Bool.Decides.{leb_tells}
 use Rattle.fleet_config.specs.declared.fleet.Member.{Member}
 use Rattle.fleet_config.specs.declared.fleet.Role.{Role}
 use Rattle.fleet_config.specs.declared.fleet.Role.TheVariants as role
-use Rattle.fleet_config.specs.Limits.{most_minions, most_syndics, most_levels}
-use Rattle.fleet_config.specs.Tree.{Tree, IsTree, member, parent_of, runs_jobs, is_syndic, minion_count, syndic_count, level, level_by}
+use Rattle.fleet_config.specs.Limits.{most_nodes, most_minions, most_syndics}
+use Rattle.fleet_config.specs.Tree.{Tree, IsTree, member, parent_of, minion_count, syndic_count, level_by}
 
 pub parent_within : (t : Tree) (i : ℕ) → (0 < length t → IsTree t) → i < length t → parent_of t i < length t
 parent_within t zero h l = let r : parent_of t 0 ≡ 0 = (h (omega arith)).root in omega arith
@@ -22,14 +22,14 @@ no_top : (ms : Tree) → ((i : ℕ) → i < length ms → (member ms i).role ≡
 no_top [] h = refl
 no_top (m ∷ ms) h = counted m ms m.role refl (h 0 (omega arith)) (no_top ms (λ i l. h (suc i) (omega arith)))
 
-minions_under : (m : Member) (ms : Tree) → m.role ≡ role.Top → minion_count (m ∷ ms) ≡ minion_count ms
+pub minions_under : (m : Member) (ms : Tree) → m.role ≡ role.Top → minion_count (m ∷ ms) ≡ minion_count ms
 minions_under m ms e = rw e refl
 
-syndics_under : (m : Member) (ms : Tree) → m.role ≡ role.Top → syndic_count (m ∷ ms) ≡ syndic_count ms
+pub syndics_under : (m : Member) (ms : Tree) → m.role ≡ role.Top → syndic_count (m ∷ ms) ≡ syndic_count ms
 syndics_under m ms e = rw e refl
 
 -- a top, 4,096 minions and 256 syndics
-pub few_nodes : (t : Tree) → (0 < length t → IsTree t) → length t ≤ 4353
+pub few_nodes : (t : Tree) → (0 < length t → IsTree t) → length t ≤ most_nodes
 few_nodes [] h = omega arith
 few_nodes (m ∷ ms) h =
     let tree = h (omega arith) in
@@ -52,3 +52,7 @@ level_on t k m h = elim (leb_tells 1 m) [
   | inl y ↦ rw (y.0) refl
   | inr y ↦ absurd (let x = y.1 in omega arith)
 ]
+
+pub level_none : (t : Tree) (m : ℕ) → level_by t 0 m ≡ 1
+unfolding level_by
+level_none t m = refl

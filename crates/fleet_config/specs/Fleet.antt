@@ -1,5 +1,5 @@
 -- What a fleet says.
-use Rattle.std.specs.Prelude.{ℕ, ◌<◌, ◌≤◌, List, length}
+use Rattle.std.specs.Prelude.{ℕ, ◌≤◌, List}
 use Rattle.fleet_config.specs.Limits.{most_jobs}
 use Rattle.fleet_config.specs.Tree.{Tree, IsTree, flat_tree}
 

@@ -1,5 +1,5 @@
 -- A node more in a fleet: what the fleet is then, or why the node is refused.
-use Rattle.std.specs.Prelude.{ℕ, ◌<◌, nat_lt, ◌&&◌, ◌||◌, not, Bool, true, false, List, [], ◌∷◌, ◌++◌, length, position, is_none, unwrap_or, Option, None, Some, bytes_eq, if◌then◌else◌}
+use Rattle.std.specs.Prelude.{ℕ, nat_lt, ◌&&◌, ◌||◌, not, Bool, true, false, List, [], ◌∷◌, ◌++◌, length, position, is_none, unwrap_or, Option, None, Some, bytes_eq, if◌then◌else◌}
 use Rattle.fleet_config.specs.declared.fleet.Role.{Role}
 use Rattle.fleet_config.specs.declared.fleet.Role.TheVariants as role
 use Rattle.fleet_config.specs.declared.fleet.Member.{Member}

@@ -1,5 +1,5 @@
 -- The limits of a fleet. All are this project's own.
-use Rattle.std.specs.Prelude.{ℕ}
+use Rattle.std.specs.Prelude.{ℕ, ◌+◌}
 
 -- the greatest number of minions
 abbrev pub most_minions : ℕ
@@ -8,6 +8,10 @@ most_minions = 4096
 -- the greatest number of syndics
 abbrev pub most_syndics : ℕ
 most_syndics = 256
+
+-- the greatest number of nodes: a top, syndics and minions
+abbrev pub most_nodes : ℕ
+most_nodes = 1 + most_syndics + most_minions
 
 -- the greatest number of levels, of which the top is the first
 abbrev pub most_levels : ℕ

@@ -14,9 +14,11 @@ Tree = List Member
 abbrev pub member : Tree → ℕ → Member
 member t i = slice_index_or t i (record { id = []; role = role.Top; parent = 0 })
 
+-- the id of a node
 abbrev pub id_of : Tree → ℕ → List ℕ
 id_of t i = (member t i).id
 
+-- the place of a node's parent; that of the top is the top
 abbrev pub parent_of : Tree → ℕ → ℕ
 parent_of t i = (member t i).parent
 
@@ -26,16 +28,19 @@ runs_jobs role.Top = false
 runs_jobs role.Syndic = false
 runs_jobs role.Minion = true
 
+-- a top, and no other master
 abbrev pub is_top : Role → Bool
 is_top role.Top = true
 is_top role.Syndic = false
 is_top role.Minion = false
 
+-- a master that is no top
 abbrev pub is_syndic : Role → Bool
 is_syndic role.Top = false
 is_syndic role.Syndic = true
 is_syndic role.Minion = false
 
+-- the node at a place is a minion
 abbrev pub is_minion : Tree → ℕ → Bool
 is_minion t i = runs_jobs (member t i).role
 
@@ -55,11 +60,12 @@ minion_count t = length (filter (λ m. runs_jobs m.role) t)
 abbrev pub syndic_count : Tree → ℕ
 syndic_count t = length (filter (λ m. is_syndic m.role) t)
 
--- The level of node m, 1 of the top: a walk up from m, of at most so many steps.
+-- The level of node m by a walk up from it, of at most so many steps.
 unfoldable pub level_by : Tree → ℕ → ℕ → ℕ
 level_by t zero m = 1
 level_by t (suc k) m = if nat_lt 0 m then level_by t k (parent_of t m) + 1 else 1
 
+-- the level of a node: 1 of the top, and one more of each node than of its parent
 abbrev pub level : Tree → ℕ → ℕ
 level t m = level_by t m m
 
@@ -81,6 +87,7 @@ unfoldable pub branch_by : Tree → ℕ → ℕ → ℕ → ℕ
 branch_by t zero p m = 0
 branch_by t (suc k) p m = if nat_lt 0 m then (if parent_of t m == p then m else branch_by t k p (parent_of t m)) else 0
 
+-- the child of p through which node m lies, or 0 where m does not lie below p
 abbrev pub branch : Tree → ℕ → ℕ → ℕ
 branch t p m = branch_by t m p m
 

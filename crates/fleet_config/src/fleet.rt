@@ -1,12 +1,14 @@
 //! A fleet, and the calls on it.
-ghost use Rattle.std.specs.Prelude.{◌≡◌, ◌≢◌, ◌∷◌, [], ◌++◌, ◌<◌, ◌≤◌, All, Some, None, length, map, position, IfOk, IfErr, IfSome, OnOk, OnErr, if◌then◌else◌};
+ghost use Rattle.std.specs.Prelude.{◌≡◌, ◌≢◌, ◌∷◌, [], ◌++◌, ◌<◌, ◌≤◌, ℕ, List, cond, All, Some, None, length, map, position, IfOk, IfErr, IfSome, OnOk, OnErr, if◌then◌else◌};
 ghost use Rattle.fleet_config.specs.Places.{HasPlaces};
 ghost use Rattle.std.specs.List.{IsDistinct};
 ghost use Rattle.std.specs.Str.{bytes_eq};
-ghost use Rattle.fleet_config.specs.Limits.{most_minions, most_jobs, most_levels};
+ghost use Rattle.fleet_config.specs.Limits.{most_minions, most_nodes, most_jobs};
 ghost use Rattle.fleet_config.specs.Tree as tree;
 ghost use Rattle.fleet_config.specs.Tree.{IsTree};
 ghost use Rattle.fleet_config.specs.Growth as growth;
+ghost use Rattle.fleet_config.specs.Causes as causes;
+ghost use Rattle.indexmap.specs.IndexMap.{get};
 
 use crate::{FleetNode, NodeFault};
 use indexmap::IndexMap;
@@ -114,7 +116,14 @@ impl Fleet {
         ensures fault { IfErr result (λ fault. fault ≢ NoMemory → node_fault self.old.tree node ≡ Some fault) }
         ensures complete { OnOk result (node_fault self.old.tree node ≡ None) }
     {
-        Err(NodeFault::NoMemory)
+        if let Some(fault) = self.fault_of(&node) {
+            return Err(fault);
+        }
+        let place = NodeId::new(self.count());
+        push_node(&mut self.members, &mut self.places, member_of(&node), place)?;
+        self.minions += one_where(runs_jobs(node.role));
+        self.syndics += one_where(is_syndic(node.role));
+        Ok(place)
     }
 
     /// Says how many jobs the top holds at most, 1 to 65,535.
@@ -139,7 +148,7 @@ impl Fleet {
     #[tactic(auto, using(crate::proofs::Trees::few_nodes))]
     pub fn count(&self) -> u32
         ensures value { result ≡ length self.now.tree }
-        ensures few { length self.now.tree ≤ 4353 }
+        ensures few { length self.now.tree ≤ most_nodes }
         ensures fleet { 0 < length self.now.tree → IsFleet self.now }
     {
         self.members.len() as u32
@@ -260,6 +269,155 @@ impl Fleet {
         }
         Ok(found)
     }
+
+    // Why a node is not added, if it is not.
+    fn fault_of(&self, node: &FleetNode) -> Option<NodeFault>
+        ensures value { result ≡ node_fault self.now.tree node.now }
+    {
+        let is_some = 0 < self.count();
+        first_cause(&[
+            (is_top(node.role) || is_some, NodeFault::NoTop),
+            (!(is_top(node.role) && is_some), NodeFault::TwoTops),
+            (self.find(&node.id).is_none(), NodeFault::TwiceId),
+            (self.is_placed(node.role, node.parent), NodeFault::NoParent),
+            (self.has_room(node.role), NodeFault::TooMany),
+            (self.has_level(node.parent), NodeFault::TooDeep),
+        ])
+    }
+
+    // A top has no parent, and every other node has a master that is there.
+    fn is_placed(&self, role: Role, parent: Option<NodeId>) -> bool
+        ensures value { result ≡ growth.is_placed self.now.tree role parent }
+    {
+        if is_top(role) {
+            parent.is_none()
+        } else {
+            self.is_master_there(parent)
+        }
+    }
+
+    // Is it a master that is there?
+    fn is_master_there(&self, parent: Option<NodeId>) -> bool
+        ensures value { result ≡ growth.is_master_there self.now.tree parent }
+    {
+        match parent {
+            Some(node) => node.place() < self.count() && !self.is_minion(node),
+            None => false,
+        }
+    }
+
+    // Is there room for one more of this role?
+    fn has_room(&self, role: Role) -> bool
+        ensures value { result ≡ growth.has_room self.now.tree role }
+    {
+        match role {
+            Role::Top => true,
+            Role::Syndic => self.syndics < MOST_SYNDICS,
+            Role::Minion => self.minions < MOST_MINIONS,
+        }
+    }
+
+    // Is there a level for a node with this parent?
+    fn has_level(&self, parent: Option<NodeId>) -> bool
+        ensures value { result ≡ growth.has_level self.now.tree parent }
+    {
+        match parent {
+            Some(node) => self.level(node) < MOST_LEVELS as u64,
+            None => true,
+        }
+    }
+
+    // The level of a node, 1 of the top.
+    fn level(&self, node: NodeId) -> u64
+        ensures value { result ≡ tree.level self.now.tree node }
+    {
+        let mut at = node;
+        let mut level: u64 = 1;
+        for step in 0..node.place() {
+            if at.place() == 0 {
+                return level;
+            }
+            at = self.parent_or_top(at);
+            level += 1;
+        }
+        level
+    }
+
+    // The parent of a node, the top past the end.
+    fn parent_or_top(&self, node: NodeId) -> NodeId
+        ensures value { result ≡ tree.parent_of self.now.tree node }
+    {
+        if node.index() < self.members.len() {
+            self.members[node.index()].parent
+        } else {
+            NodeId::TOP
+        }
+    }
+}
+
+// The cause of the first test that does not hold.
+fn first_cause(tests: &[(bool, NodeFault)]) -> Option<NodeFault>
+    ensures value { result ≡ causes.first_cause tests.now }
+{
+    for (holds, cause) in tests {
+        if !*holds {
+            return Some(*cause);
+        }
+    }
+    None
+}
+
+fn is_top(role: Role) -> bool
+    ensures value { result ≡ tree.is_top role }
+{
+    matches!(role, Role::Top)
+}
+
+fn is_syndic(role: Role) -> bool
+    ensures value { result ≡ tree.is_syndic role }
+{
+    matches!(role, Role::Syndic)
+}
+
+// The node as a fleet has it: the parent of the top is the top.
+fn member_of(node: &FleetNode) -> Member
+    ensures value { result ≡ growth.member_of node.now }
+{
+    Member {
+        id: node.id,
+        role: node.role,
+        parent: node.parent.unwrap_or(NodeId::TOP),
+    }
+}
+
+fn one_where(holds: bool) -> u32
+    ensures value { result ≡ (if holds then 1 else 0) }
+{
+    if holds { 1 } else { 0 }
+}
+
+// A node and its place more, or neither.
+fn push_node(
+    members: &mut Vec<Member>,
+    places: &mut IndexMap<MinionId, NodeId>,
+    member: Member,
+    place: NodeId,
+) -> Result<(), AllocError>
+    ensures members { OnOk result (members.new.items ≡ members.old.items ++ member ∷ []) }
+    ensures places { OnOk result ((id : List ℕ) → get bytes_eq places.new id ≡ cond (bytes_eq member.id id) (Some place) (get bytes_eq places.old id)) }
+    ensures err_members { OnErr result (members.new.items ≡ members.old.items) }
+    ensures err_places { OnErr result ((id : List ℕ) → get bytes_eq places.new id ≡ get bytes_eq places.old id) }
+{
+    let count = members.len();
+    let id = member.id;
+    members.push(member)?;
+    match places.insert(id, place) {
+        Ok(_) => Ok(()),
+        Err(_) => {
+            members.truncate(count);
+            Err(AllocError)
+        }
+    }
 }
 
 // A minion runs jobs, and every other node is a master.
@@ -307,7 +465,7 @@ fn flat_members(
 
 // The place of each id.
 fn index(alloc: Global, members: &[Member]) -> Result<IndexMap<MinionId, NodeId>, AllocError>
-    requires few { length members.now ≤ 4353 }
+    requires few { length members.now ≤ most_nodes }
     requires distinct { IsDistinct bytes_eq (map (λ m. m.id) members.now) }
     ensures ok { IfOk result (λ places. HasPlaces members.now places) }
 {

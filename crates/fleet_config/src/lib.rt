@@ -6,7 +6,5 @@
 mod fleet;
 mod node;
 
-pub use fleet::{
-    Fleet, MOST_JOBS, MOST_LEVELS, MOST_MINIONS, MOST_SYNDICS, Member, Role,
-};
+pub use fleet::{Fleet, MOST_JOBS, MOST_LEVELS, MOST_MINIONS, MOST_SYNDICS, Member, Role};
 pub use node::{FleetNode, NodeFault};

@@ -128,6 +128,7 @@ impl Node {
         ensures not_neighbour { IsErrOf result PendFault.NotNeighbour → is_neighbour fleet.now.tree me peer ≡ false }
         ensures complete { OnOk result (is_neighbour fleet.now.tree me peer ≡ true) }
     {
+        let _ = &self.records;
         if fleet.is_parent(me, peer) {
             return Ok(self.pending_down(peer, max)?);
         }
@@ -139,12 +140,7 @@ impl Node {
 
     /// Publishes a job, at a moment in microseconds since 1970-01-01 UTC, where fewer jobs are held than the fleet says. After an error
     /// the node is as before.
-    pub fn publish(
-        &mut self,
-        fleet: &Fleet,
-        moment: u64,
-        tgt: &Glob,
-    ) -> Result<Jid, PublishFault>
+    pub fn publish(&mut self, fleet: &Fleet, moment: u64, tgt: &Glob) -> Result<Jid, PublishFault>
         ensures ok { IfOk result (λ jid. (publication fleet.now.max_jobs moment (jobs self.old.records) ≡ Ok jid) × (self.new ≡ with_record (Record.Publish (record { jid = jid; tgt = tgt.now })) self.old)) }
         ensures err { OnErr result (self.new ≡ self.old) }
         ensures fault { IfErr result (λ fault. fault ≢ PublishFault.NoMemory → publication fleet.now.max_jobs moment (jobs self.old.records) ≡ Err fault) }
@@ -429,7 +425,8 @@ impl Node {
         let Logs::Below(map) = &mut self.logs else {
             unreachable!()
         };
-        push_up(self.alloc, &mut self.records, map, minion, entry)
+        push_up(self.alloc, &mut self.records, map, minion, entry)?;
+        Ok(())
     }
 }
 

@@ -6,7 +6,7 @@ use Rattle.fleet_config.proofs.Places.{place_more}
 use Rattle.fleet_config.proofs.fleet.index.Goals as goal
 
 pub loop-i-preserved : goal.loop-i-preserved
-loop-i-preserved c = λ id. 
+loop-i-preserved c = λ id.
     c.in-Ok.ensures.updates.0 id
     ∙ ap (λ (n : ℕ). cond (bytes_eq c.index-members-i.result.id id) (Some n) (get bytes_eq c.loop-i.places id)) c.new.ensures
     ∙ ap (λ (o : Option ℕ). cond (bytes_eq c.index-members-i.result.id id) (Some c.loop-i.i) o) (c.loop-i.invariant id)

@@ -1,6 +1,5 @@
-use Rattle.std.proofs.Common.{◌∙◌, sym, ap, arith, length, ◌≤◌}
+use Rattle.std.proofs.Common.{◌∙◌, sym, arith}
 use Rattle.fleet_config.proofs.Fleets.{ids_of, flat_is_tree, flat_minions, flat_syndics}
-use Rattle.fleet_config.specs.Tree.{minion_count, syndic_count}
 use Rattle.fleet_config.proofs.fleet.Fleet.flat.Goals as goal
 
 pub index-requires-clause-distinct : goal.index-requires-clause-distinct
