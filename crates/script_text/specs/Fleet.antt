@@ -5,16 +5,16 @@ use Rattle.fleet_config.specs.Tree.{Tree, flat_tree}
 use Rattle.fleet_config.specs.Fleet.{FleetConfig}
 use Rattle.script_text.specs.Script.{HasIds}
 
--- a top with the first of these ids, and minions with the others
+-- No public contract cites it. A top with the first of these ids, and minions with the others
 abbrev pub tree_by : List (List ℕ) → Tree
 tree_by [] = []
 tree_by (top ∷ minions) = flat_tree top minions
 
--- the fleet of that tree, as scripts have it
+-- No public contract cites it. The fleet of that tree, as scripts have it
 abbrev pub fleet_by : List (List ℕ) → FleetConfig
 fleet_by ids = record { tree = tree_by ids; max_jobs = most_jobs }
 
--- these may be the ids of a fleet
+-- No public contract cites it. These may be the ids of a fleet
 abbrev pub AreIds : List (List ℕ) → Type 0
 AreIds [] = ⊥
 AreIds (top ∷ minions) = HasIds top minions

@@ -3,34 +3,34 @@ use Rattle.std.specs.Prelude.{ℕ, ◌<◌, ◌^◌, ◌==◌, nat_lt, ◌&&◌,
 use Rattle.fleet_config.specs.Tree.{Tree, id_of}
 use Rattle.script_text.specs.Script.{IsPattern}
 
--- what stands after the moment of a publication
+-- No public contract cites it. What stands after the moment of a publication
 abbrev pub target_text : List ℕ → List ℕ
 target_text tgt = codes "glob test.ping [\"" ++ (tgt ++ codes "\"]")
 
--- a moment and a pattern
+-- No public contract cites it. A moment and a pattern
 abbrev pub IsPublication : ℕ × List ℕ → Type 0
 IsPublication p = (p.0 < 2 ^ 64) × IsPattern p.1
 
--- `MOMENT glob test.ping ["PATTERN"]`
+-- No public contract cites it. `MOMENT glob test.ping ["PATTERN"]`
 abbrev pub publication_text : ℕ × List ℕ → List ℕ
 publication_text p = decimal p.0 ++ 32 ∷ target_text p.1
 
--- the place of a node of the tree
+-- No public contract cites it. The place of a node of the tree
 abbrev pub IsPlaceIn : Tree → ℕ → Type 0
 IsPlaceIn t n = n < length t
 
--- the id of a node, a space, and what stands after it
+-- No public contract cites it. The id of a node, a space, and what stands after it
 abbrev pub node_text : Tree → ℕ → List ℕ → List ℕ
 node_text t n rest = id_of t n ++ 32 ∷ rest
 
--- two nodes of the tree and a count
+-- No public contract cites it. Two nodes of the tree and a count
 abbrev pub IsSending : Tree → ℕ × (ℕ × ℕ) → Type 0
 IsSending t p = IsPlaceIn t p.0 × (IsPlaceIn t p.1.0 × (p.1.1 < 2 ^ 64))
 
--- `FROM TO N`
+-- No public contract cites it. `FROM TO N`
 abbrev pub sending_text : Tree → ℕ × (ℕ × ℕ) → List ℕ
 sending_text t p = node_text t p.0 (node_text t p.1.0 (decimal p.1.1))
 
--- one is the top and the other a minion
+-- No public contract cites it. One is the top and the other a minion
 abbrev pub are_neighbours : ℕ → ℕ → Bool
 are_neighbours a b = (a == 0 && nat_lt 0 b) || (b == 0 && nat_lt 0 a)

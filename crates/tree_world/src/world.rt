@@ -34,6 +34,7 @@ pub struct World {
 }
 
 impl Model for World {
+    ghost use Rattle.std.specs.Prelude.{◌≡◌, ◌<◌, All, length};
     ghost use Rattle.fleet_config.specs.Tree.{minions};
     ghost use Rattle.tree_world.specs.Network.{System};
 
