@@ -6,7 +6,6 @@ use Rattle.std.proofs.lemmas.List.{get_or-set_same, get_or-set_other, length-set
 use Rattle.std.proofs.lemmas.Bool.{cases_eq, eq-eqb, le-leb}
 use Rattle.std.proofs.lemmas.Bool.Decides.{eqb_tells}
 use Rattle.std.proofs.lemmas.Option.{slice_get_within}
-use Rattle.fleet_config.specs.declared.fleet.Member.{Member}
 use Rattle.node_core.specs.declared.job.Job.{Job}
 use Rattle.node_core.specs.declared.record.Entry.{Entry}
 use Rattle.node_core.specs.declared.record.Record.{Record}
@@ -14,11 +13,13 @@ use Rattle.node_core.specs.declared.record.Record.TheVariants.{Intake, Up}
 use Rattle.node_core.specs.declared.message.Message.{Message}
 use Rattle.node_core.specs.declared.message.Message.TheVariants as msg
 use Rattle.node_core.specs.declared.faults.Stray.{Stray}
-use Rattle.fleet_config.specs.Tree.{id_of, parent_of, is_minion, is_parent, place_of, IsFleet, branch}
+use Rattle.fleet_config.specs.Fleet.{FleetConfig}
+use Rattle.fleet_config.specs.Tree.{Tree, id_of, parent_of, is_minion, is_parent, place_of, IsTree, branch}
 use Rattle.node_core.specs.Flat.{is_rising}
 use Rattle.node_core.specs.Records.{jobs, jobs_held, count_in, log}
 use Rattle.node_core.specs.Counts.{raised}
-use Rattle.node_core.specs.Node.{NodeState, Answer, with_record, taken_in, after_pub, after_up, accepted, is_neighbour, may_take, is_below, is_here, is_next, may_record, names_held, first_cause, stray_of, taken_by, taken}
+use Rattle.node_core.specs.Node.{NodeState, Answer, with_record, taken_in, after_pub, after_up, accepted, is_neighbour, may_take, is_below, is_here, is_next, may_record, names_held, stray_of, taken_by, taken}
+use Rattle.fleet_config.specs.Causes.{first_cause}
 use Rattle.node_core.specs.Node.Answer.{IsStray, Silent, Reply}
 use Rattle.tree_world.specs.Packets.{Packet}
 use Rattle.tree_world.specs.Network.{Network, node_at, with_node, with_packets, packet, with_reply, received}
@@ -48,16 +49,16 @@ at_grows nodes k v l p i = elim (cases_eq i k) [
   | inr ne ↦ rw (at_other nodes i k v ne) (prefix_same (node_at nodes i).records)
 ]
 
-sent_more : (f : List Member) (nodes : List NodeState) (k : ℕ) (v : NodeState) → k < length nodes → IsPrefix (node_at nodes k).records v.records
+sent_more : (f : Tree) (nodes : List NodeState) (k : ℕ) (v : NodeState) → k < length nodes → IsPrefix (node_at nodes k).records v.records
     → (p : Packet) → IsSent f nodes p → IsSent f (set nodes k v) p
 sent_more f nodes k v l pre p h = record {
   from = h.from;
   to = h.to;
-  fits = fits_more f p.from.0 p.to.0 (node_at nodes p.from.0) (node_at (set nodes k v) p.from.0) p.message (at_grows nodes k v l pre p.from.0) h.fits;
+  fits = fits_more f p.from p.to (node_at nodes p.from) (node_at (set nodes k v) p.from) p.message (at_grows nodes k v l pre p.from) h.fits;
 }
 
 -- one node changes
-pub node_step : (f : List Member) (w : Network) (k : ℕ) (v : NodeState) → IsFleet f → Holds f w → k < length f → IsPrefix (node_at w.nodes k).records v.records
+pub node_step : (f : Tree) (w : Network) (k : ℕ) (v : NodeState) → IsTree f → Holds f w → k < length f → IsPrefix (node_at w.nodes k).records v.records
     → length (jobs (node_at (set w.nodes k v) 0).records) ≤ 65535
     → is_rising (jobs (node_at (set w.nodes k v) 0).records) ≡ true
     → IsNode f (jobs (node_at (set w.nodes k v) 0).records) k v
@@ -88,7 +89,7 @@ node_step f w k v fleet h l grows few rising node below above =
     }
 
 -- the same, where the top's jobs stay
-pub node_step_same : (f : List Member) (w : Network) (k : ℕ) (v : NodeState) → IsFleet f → Holds f w → k < length f → IsPrefix (node_at w.nodes k).records v.records
+pub node_step_same : (f : Tree) (w : Network) (k : ℕ) (v : NodeState) → IsTree f → Holds f w → k < length f → IsPrefix (node_at w.nodes k).records v.records
     → (k ≡ 0 → jobs v.records ≡ jobs (node_at w.nodes 0).records)
     → IsNode f (jobs (node_at w.nodes 0).records) k v
     → (0 < k → IsPair f (parent_of f k) k (node_at w.nodes (parent_of f k)) v)
@@ -102,24 +103,24 @@ node_step_same f w k v fleet h l grows stays node below above =
     ] in
     node_step f w k v fleet h l grows (rw same h.few) (rw same h.rising) (rw same node) below above
 
-abbrev pub FitsReply : List Member → ℕ → ℕ → NodeState → Answer → Type 0
+abbrev pub FitsReply : Tree → ℕ → ℕ → NodeState → Answer → Type 0
 FitsReply f me to node (IsStray cause) = ⊥
 FitsReply f me to node Silent = Unit {0}
 FitsReply f me to node (Reply message) = Fits f me to node message
 
 -- node to takes a message of node from
-abbrev pub Took : List Member → Network → ℕ → ℕ → Message → Type 0
+abbrev pub Took : Tree → Network → ℕ → ℕ → Message → Type 0
 Took f w from to message =
     let t = taken f to from message (node_at w.nodes to) in
     Holds f (with_node w to t.node) × FitsReply f to from t.node t.answer
 
-pub count_taken : (f : List Member) (i seq : ℕ) (job : Job) (node : NodeState) → count_in (taken_in f i seq job node) ≡ 1
+pub count_taken : (f : Tree) (i seq : ℕ) (job : Job) (node : NodeState) → count_in (taken_in f i seq job node) ≡ 1
 count_taken f i seq job node = either node.minion refl where
   either : (t : Bool) → node.minion ≡ t → count_in (taken_in f i seq job node) ≡ 1
   either true e = rw e refl
   either false e = rw e refl
 
-unchanged : (f : List Member) (w : Network) (k : ℕ) → Holds f w → Holds f (with_node w k (node_at w.nodes k))
+unchanged : (f : Tree) (w : Network) (k : ℕ) → Holds f w → Holds f (with_node w k (node_at w.nodes k))
 unchanged f w k h = rw (set-get_or w.nodes k blank) h
 
 or_true : (a : Bool) → (a || true) ≡ true
@@ -127,10 +128,10 @@ or_true true = refl
 or_true false = refl
 
 -- parent and child are neighbours
-of_child : (f : List Member) (p c : ℕ) → is_parent f p c ≡ true → is_neighbour f p c ≡ true
+of_child : (f : Tree) (p c : ℕ) → is_parent f p c ≡ true → is_neighbour f p c ≡ true
 of_child f p c e = rw e refl
 
-of_parent : (f : List Member) (p c : ℕ) → is_parent f p c ≡ true → is_neighbour f c p ≡ true
+of_parent : (f : Tree) (p c : ℕ) → is_parent f p c ≡ true → is_neighbour f c p ≡ true
 of_parent f p c e = rw e (or_true (is_parent f c p))
 
 two_tests : (a b : Bool) (x y : Stray) → a ≡ true → b ≡ true → first_cause ((a, x) ∷ (b, y) ∷ []) ≡ None
@@ -143,16 +144,16 @@ four_tests : (a b c d : Bool) (x y z u : Stray) → a ≡ true → b ≡ true �
 four_tests a b c d x y z u p q r s = rw (p, q, r, s) refl
 
 -- a message that passes its tests is taken
-by_none : (f : List Member) (me from : ℕ) (message : Message) (node : NodeState) → stray_of f me from message node ≡ None
+by_none : (f : Tree) (me from : ℕ) (message : Message) (node : NodeState) → stray_of f me from message node ≡ None
     → taken f me from message node ≡ accepted f me from message node
 by_none f me from message node e = ap (λ (o : Option Stray). taken_by o node (accepted f me from message node)) e
 
-pub taken_pub : (f : List Member) (me from seq : ℕ) (job : Job) (node : NodeState) → is_parent f from me ≡ true → may_take seq job node ≡ true
+pub taken_pub : (f : Tree) (me from seq : ℕ) (job : Job) (node : NodeState) → is_parent f from me ≡ true → may_take seq job node ≡ true
     → taken f me from (msg.Pub seq job) node ≡ after_pub f me seq job node
 taken_pub f me from seq job node p g =
     by_none f me from (msg.Pub seq job) node (two_tests (is_neighbour f me from) (is_parent f from me && may_take seq job node) _ _ (of_parent f from me p) (and_true (is_parent f from me) (may_take seq job node) p g))
 
-took_pub : (f : List Member) (w : Network) (p c seq : ℕ) (job : Job) → IsFleet f → Holds f w → Fits f p c (node_at w.nodes p) (msg.Pub seq job) → Took f w p c (msg.Pub seq job)
+took_pub : (f : Tree) (w : Network) (p c seq : ℕ) (job : Job) → IsTree f → Holds f w → Fits f p c (node_at w.nodes p) (msg.Pub seq job) → Took f w p c (msg.Pub seq job)
 took_pub f w p c seq job fleet h fits =
     let ch : IsChild f p c = child f p c fits.0 in
     let lo : 0 < c = ch.some in
@@ -188,12 +189,12 @@ took_pub f w p c seq job fleet h fits =
           ))
     ])
 
-pub taken_have : (f : List Member) (me from n : ℕ) (node : NodeState) → is_parent f me from ≡ true → n ≤ jobs_held node.records
+pub taken_have : (f : Tree) (me from n : ℕ) (node : NodeState) → is_parent f me from ≡ true → n ≤ jobs_held node.records
     → taken f me from (msg.Have n) node ≡ record { node = record node { known_jobs = raised node.known_jobs from n }; answer = Silent }
 taken_have f me from n node p l =
     by_none f me from (msg.Have n) node (three_tests (is_neighbour f me from) (is_parent f me from) (nat_le n (jobs_held node.records)) _ _ _ (of_child f me from p) p (le-leb n (jobs_held node.records) l))
 
-took_have : (f : List Member) (w : Network) (c p n : ℕ) → IsFleet f → Holds f w → Fits f c p (node_at w.nodes c) (msg.Have n) → Took f w c p (msg.Have n)
+took_have : (f : Tree) (w : Network) (c p n : ℕ) → IsTree f → Holds f w → Fits f c p (node_at w.nodes c) (msg.Have n) → Took f w c p (msg.Have n)
 took_have f w c p n fleet h fits =
     let ch : IsChild f p c = child f p c fits.0 in
     let lo : 0 < c = ch.some in
@@ -216,7 +217,7 @@ took_have f w c p n fleet h fits =
       tt,
     )
 
-pub taken_up : (f : List Member) (me from : ℕ) (id : List ℕ) (n : ℕ) (entry : Entry) (node : NodeState) → is_parent f me from ≡ true → node.minion ≡ false → is_below f me from id ≡ true
+pub taken_up : (f : Tree) (me from : ℕ) (id : List ℕ) (n : ℕ) (entry : Entry) (node : NodeState) → is_parent f me from ≡ true → node.minion ≡ false → is_below f me from id ≡ true
     → names_held (jobs_held node.records) entry ≡ true → may_record n id entry node ≡ true → taken f me from (msg.Up id n entry) node ≡ after_up id n entry node
 taken_up f me from id n entry node p r b h g =
     by_none f me from (msg.Up id n entry) node (four_tests (is_neighbour f me from)
@@ -232,7 +233,7 @@ taken_up f me from id n entry node p r b h g =
       and_three : (a b c : Bool) → a ≡ true → b ≡ true → c ≡ true → (a && b && c) ≡ true
       and_three a b c p q r = rw (p, q, r) refl
 
-node_up : (f : List Member) (top : List Job) (i : ℕ) (a : NodeState) (id : List ℕ) (entry : Entry) → is_minion f i ≡ false → Names (jobs_held a.records) entry
+node_up : (f : Tree) (top : List Job) (i : ℕ) (a : NodeState) (id : List ℕ) (entry : Entry) → is_minion f i ≡ false → Names (jobs_held a.records) entry
     → IsNode f top i a → IsNode f top i (with_record (Up id entry) a)
 node_up f top i a id entry z named h =
     let js : jobs (a.records ++ Up id entry ∷ []) ≡ jobs a.records = jobs_push a.records (Up id entry) ∙ append-nil (jobs a.records) in
@@ -247,7 +248,7 @@ node_up f top i a id entry z named h =
       go j true y = rw (log_up_same j a.records id entry y) (all_join (Names (jobs_held a.records)) (log j a.records) (entry ∷ []) (h.names j) (named, tt))
       go j false y = rw (log_up_other j a.records id entry y) (h.names j)
 
-pair_up : (f : List Member) (p d : ℕ) (a below : NodeState) (id : List ℕ) (entry : Entry)
+pair_up : (f : Tree) (p d : ℕ) (a below : NodeState) (id : List ℕ) (entry : Entry)
     → ((j : ℕ) → id ≡ id_of f j → branch f p j ≡ d → slice_get (log id below.records) (length (log id a.records)) ≡ Some entry)
     → IsPair f p d a below → IsPair f p d (with_record (Up id entry) a) below
 pair_up f p d a below id entry next h =
@@ -264,7 +265,7 @@ pair_up f p d a below id entry next h =
           rw (log_up_same (id_of f j) a.records id entry y) (prefix_next _ _ entry (h.logs j e) (rw s at (next j s e)))
       go j e false y = rw (log_up_other (id_of f j) a.records id entry y) (h.logs j e)
 
-took_up : (f : List Member) (w : Network) (c p : ℕ) (id : List ℕ) (n : ℕ) (entry : Entry) → IsFleet f → Holds f w → Fits f c p (node_at w.nodes c) (msg.Up id n entry) → Took f w c p (msg.Up id n entry)
+took_up : (f : Tree) (w : Network) (c p : ℕ) (id : List ℕ) (n : ℕ) (entry : Entry) → IsTree f → Holds f w → Fits f c p (node_at w.nodes c) (msg.Up id n entry) → Took f w c p (msg.Up id n entry)
 took_up f w c p id n entry fleet h fits =
     let ch : IsChild f p c = child f p c fits.0 in
     let lo : 0 < c = ch.some in
@@ -305,14 +306,14 @@ took_up f w c p id n entry fleet h fits =
       )
     ])
 
-pub taken_up_have : (f : List Member) (me from : ℕ) (id : List ℕ) (n : ℕ) (node : NodeState) → is_parent f from me ≡ true → is_here f me id ≡ true
+pub taken_up_have : (f : Tree) (me from : ℕ) (id : List ℕ) (n : ℕ) (node : NodeState) → is_parent f from me ≡ true → is_here f me id ≡ true
     → n ≤ length (log id node.records)
     → taken f me from (msg.UpHave id n) node ≡ record { node = record node { known_ups = raised node.known_ups (place_of f id) n }; answer = Silent }
 taken_up_have f me from id n node p b l =
     by_none f me from (msg.UpHave id n) node (four_tests (is_neighbour f me from) (is_parent f from me) (is_here f me id) (nat_le n (length (log id node.records))) _ _ _ _
     (of_parent f from me p) p b (le-leb n (length (log id node.records)) l))
 
-took_up_have : (f : List Member) (w : Network) (p c : ℕ) (id : List ℕ) (n : ℕ) → IsFleet f → Holds f w → Fits f p c (node_at w.nodes p) (msg.UpHave id n) → Took f w p c (msg.UpHave id n)
+took_up_have : (f : Tree) (w : Network) (p c : ℕ) (id : List ℕ) (n : ℕ) → IsTree f → Holds f w → Fits f p c (node_at w.nodes p) (msg.UpHave id n) → Took f w p c (msg.UpHave id n)
 took_up_have f w p c id n fleet h fits =
     let ch : IsChild f p c = child f p c fits.0 in
     let lo : 0 < c = ch.some in
@@ -338,24 +339,24 @@ took_up_have f w p c id n fleet h fits =
       tt,
     )
 
-pub took : (f : List Member) (w : Network) (from to : ℕ) (message : Message) → IsFleet f → Holds f w → Fits f from to (node_at w.nodes from) message → Took f w from to message
+pub took : (f : Tree) (w : Network) (from to : ℕ) (message : Message) → IsTree f → Holds f w → Fits f from to (node_at w.nodes from) message → Took f w from to message
 took f w from to (msg.Pub seq job) fleet h fits = took_pub f w from to seq job fleet h fits
 took f w from to (msg.Have n) fleet h fits = took_have f w from to n fleet h fits
 took f w from to (msg.Up id n entry) fleet h fits = took_up f w from to id n entry fleet h fits
 took f w from to (msg.UpHave id n) fleet h fits = took_up_have f w from to id n fleet h fits
 
-pub packets_step : (f : List Member) (w : Network) (new : List Packet) → Holds f w → AllByRecursion (IsSent f w.nodes) new → Holds f (with_packets w new)
+pub packets_step : (f : Tree) (w : Network) (new : List Packet) → Holds f w → AllByRecursion (IsSent f w.nodes) new → Holds f (with_packets w new)
 packets_step f w new h all = record { size = h.size; few = h.few; rising = h.rising; each = h.each; pairs = h.pairs; sent = all_join (IsSent f w.nodes) w.packets new h.sent all }
 
-reply_step : (f : List Member) (w : Network) (p : Packet) (answer : Answer) → Holds f w → p.to.0 < length f → p.from.0 < length f
-    → FitsReply f p.to.0 p.from.0 (node_at w.nodes p.to.0) answer → Holds f (record w { packets = with_reply p answer w.packets })
+reply_step : (f : Tree) (w : Network) (p : Packet) (answer : Answer) → Holds f w → p.to < length f → p.from < length f
+    → FitsReply f p.to p.from (node_at w.nodes p.to) answer → Holds f (record w { packets = with_reply p answer w.packets })
 reply_step f w p (IsStray cause) h to from g = absurd g
 reply_step f w p Silent h to from g = h
-reply_step f w p (Reply message) h to from g = packets_step f w (packet p.to.0 p.from.0 message ∷ []) h (record { from = to; to = from; fits = g }, tt)
+reply_step f w p (Reply message) h to from g = packets_step f w (packet p.to p.from message ∷ []) h (record { from = to; to = from; fits = g }, tt)
 
-pub received_step : (f : List Member) (w : Network) (p : Packet) → IsFleet f → Holds f w → IsSent f w.nodes p → Holds f (received f w p)
+pub received_step : (f : FleetConfig) (w : Network) (p : Packet) → IsTree f.tree → Holds f.tree w → IsSent f.tree w.nodes p → Holds f.tree (received f w p)
 received_step f w p fleet h s =
-    let t = taken f p.to.0 p.from.0 p.message (node_at w.nodes p.to.0) in
-    let g : Took f w p.from.0 p.to.0 p.message = took f w p.from.0 p.to.0 p.message fleet h s.fits in
-    let in' : p.to.0 < length w.nodes = let z = h.size in let y = s.to in omega arith in
-    reply_step f (with_node w p.to.0 t.node) p t.answer g.0 s.to s.from (rw (at_same w.nodes p.to.0 t.node in') g.1)
+    let t = taken f.tree p.to p.from p.message (node_at w.nodes p.to) in
+    let g : Took f.tree w p.from p.to p.message = took f.tree w p.from p.to p.message fleet h s.fits in
+    let in' : p.to < length w.nodes = let z = h.size in let y = s.to in omega arith in
+    reply_step f.tree (with_node w p.to t.node) p t.answer g.0 s.to s.from (rw (at_same w.nodes p.to t.node in') g.1)

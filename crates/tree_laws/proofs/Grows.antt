@@ -4,7 +4,8 @@ use Rattle.std.specs.Prelude.{Option, None, Some, slice_get}
 use Rattle.std.proofs.lemmas.List.{set_past}
 use Rattle.std.proofs.lemmas.Bool.{cases_lt}
 use Rattle.std.proofs.lemmas.Option.{slice_get_cases}
-use Rattle.fleet_config.specs.declared.fleet.Member.{Member}
+use Rattle.fleet_config.specs.Tree.{Tree}
+use Rattle.fleet_config.specs.Fleet.{FleetConfig}
 use Rattle.node_core.specs.declared.faults.Stray.{Stray}
 use Rattle.node_core.specs.declared.record.Record.{Record}
 use Rattle.node_core.specs.declared.record.Record.TheVariants.{Publish, Up}
@@ -12,8 +13,8 @@ use Rattle.node_core.specs.declared.message.Message.{Message}
 use Rattle.node_core.specs.declared.message.Message.TheVariants as msg
 use Rattle.node_core.specs.Records.{jobs_held, log}
 use Rattle.node_core.specs.Node.{NodeState, Taken, with_record, recorded, taken_in, accepted, stray_of, taken_by, taken}
-use Rattle.tree_world.specs.declared.turn.Turn.{Turn}
-use Rattle.tree_world.specs.declared.turn.Turn.TheVariants as kind
+use Rattle.fleet_turns.specs.declared.turn.Turn.{Turn}
+use Rattle.fleet_turns.specs.declared.turn.Turn.TheVariants as kind
 use Rattle.tree_world.specs.Network.{Network, node_at, top_jobs, received, delivered, after, after_all}
 use Rattle.tree_laws.specs.Lists.{IsPrefix}
 use Rattle.tree_laws.proofs.Lists.{prefix_same, prefix_trans}
@@ -26,7 +27,7 @@ recorded_grows : (t : Bool) (new : Record) (node : NodeState) → IsPrefix node.
 recorded_grows true new node = (new ∷ [], refl)
 recorded_grows false new node = prefix_same node.records
 
-accepted_grows : (f : List Member) (me from : ℕ) (message : Message) (node : NodeState) → IsPrefix node.records (accepted f me from message node).node.records
+accepted_grows : (f : Tree) (me from : ℕ) (message : Message) (node : NodeState) → IsPrefix node.records (accepted f me from message node).node.records
 accepted_grows f me from (msg.Pub seq job) node = recorded_grows (seq == jobs_held node.records) (taken_in f me seq job node) node
 accepted_grows f me from (msg.Have n) node = prefix_same node.records
 accepted_grows f me from (msg.Up id n entry) node = recorded_grows (n == length (log id node.records)) (Up id entry) node
@@ -36,7 +37,7 @@ taken_by_grows : (o : Option Stray) (node : NodeState) (done : Taken) → IsPref
 taken_by_grows None node done p = p
 taken_by_grows (Some cause) node done p = prefix_same node.records
 
-taken_grows : (f : List Member) (me from : ℕ) (message : Message) (node : NodeState) → IsPrefix node.records (taken f me from message node).node.records
+taken_grows : (f : Tree) (me from : ℕ) (message : Message) (node : NodeState) → IsPrefix node.records (taken f me from message node).node.records
 taken_grows f me from message node = taken_by_grows (stray_of f me from message node) node (accepted f me from message node) (accepted_grows f me from message node)
 
 -- one network has the records of another, and maybe more
@@ -50,26 +51,26 @@ set_grows nodes k v p i = elim (cases_lt k (length nodes)) [
   | inr l ↦ rw (set_past nodes k v l) (prefix_same (node_at nodes i).records)
 ]
 
-delivered_grows : (f : List Member) (w : Network) (i : ℕ) → Grew w (delivered f w (slice_get w.packets i))
+delivered_grows : (f : FleetConfig) (w : Network) (i : ℕ) → Grew w (delivered f w (slice_get w.packets i))
 delivered_grows f w i = elim (slice_get_cases w.packets i).1 [
-  | inl c ↦ rw c.2 (by_receiver (Grew w) (nat_lt c.0.to.0 (length w.nodes)) w (received f w c.0) (λ j. prefix_same (node_at w.nodes j).records)
-      (set_grows w.nodes c.0.to.0 (taken f c.0.to.0 c.0.from.0 c.0.message (node_at w.nodes c.0.to.0)).node
-      (taken_grows f c.0.to.0 c.0.from.0 c.0.message (node_at w.nodes c.0.to.0))))
+  | inl c ↦ rw c.2 (by_receiver (Grew w) (nat_lt c.0.to (length w.nodes)) w (received f w c.0) (λ j. prefix_same (node_at w.nodes j).records)
+      (set_grows w.nodes c.0.to (taken f.tree c.0.to c.0.from c.0.message (node_at w.nodes c.0.to)).node
+      (taken_grows f.tree c.0.to c.0.from c.0.message (node_at w.nodes c.0.to))))
   | inr c ↦ rw c.1 (λ i. prefix_same (node_at w.nodes i).records)
 ]
 
-after_grows : (f : List Member) (turn : Turn) (w : Network) → Grew w (after f turn w)
+after_grows : (f : FleetConfig) (turn : Turn) (w : Network) → Grew w (after f turn w)
 after_grows f (kind.Publish moment tgt) w =
-    published_either (Grew w) w moment tgt (λ i. prefix_same (node_at w.nodes i).records)
+    published_either (Grew w) w f.max_jobs moment tgt (λ i. prefix_same (node_at w.nodes i).records)
     (λ jid few late. set_grows w.nodes 0 (with_record (Publish (record { jid = jid; tgt = tgt })) (node_at w.nodes 0)) (Publish (record { jid = jid; tgt = tgt }) ∷ [], refl))
 after_grows f (kind.Send from to count) w = λ i. prefix_same (node_at w.nodes i).records
 after_grows f (kind.Deliver i) w = delivered_grows f w i
 after_grows f (kind.Report jid) w = λ i. prefix_same (node_at w.nodes i).records
 after_grows f (kind.Packet i) w = λ j. prefix_same (node_at w.nodes j).records
 
-pub run_grows : (f : List Member) (turns : List Turn) (w : Network) → Grew w (after_all f turns w)
+pub run_grows : (f : FleetConfig) (turns : List Turn) (w : Network) → Grew w (after_all f turns w)
 run_grows f [] w = λ i. prefix_same (node_at w.nodes i).records
 run_grows f (turn ∷ turns) w = λ i. prefix_trans _ _ _ (after_grows f turn w i) (run_grows f turns (after f turn w) i)
 
-pub top_grows : (f : List Member) (turns : List Turn) (w : Network) → IsPrefix (top_jobs w) (top_jobs (after_all f turns w))
+pub top_grows : (f : FleetConfig) (turns : List Turn) (w : Network) → IsPrefix (top_jobs w) (top_jobs (after_all f turns w))
 top_grows f turns w = jobs_prefix _ _ (run_grows f turns w 0)

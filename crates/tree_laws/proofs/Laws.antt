@@ -2,12 +2,11 @@
 use Rattle.std.proofs.Common.{◌≡◌, ℕ, suc, ◌+◌, ◌<◌, ◌∙◌, sym, ap, refl, true, List, [], ◌∷◌, ◌++◌, length, take, drop, arith, append_assoc, take-append-drop}
 use Rattle.std.specs.Prelude.{IfSome, Option, None, Some, is_some, Bool, filter}
 use Rattle.std.specs.List.{AllByRecursion}
-use Rattle.fleet_config.specs.declared.fleet.Member.{Member}
 use Rattle.node_core.specs.declared.job.Job.{Job}
 use Rattle.node_core.specs.declared.job.Outcome.{Outcome}
 use Rattle.node_core.specs.declared.record.Record.{Record}
 use Rattle.node_core.specs.declared.faults.Stray.{Stray}
-use Rattle.fleet_config.specs.Tree.{id_of, parent_of, is_minion, is_within, IsFleet, minions}
+use Rattle.fleet_config.specs.Tree.{Tree, id_of, parent_of, is_minion, is_within, IsTree, minions}
 use Rattle.node_core.specs.Flat.{entries_of, flat_up, acts, return_of}
 use Rattle.node_core.specs.Records.{jobs_held, log, log_after}
 use Rattle.node_core.specs.Node.{NodeState, Answer, taken}
@@ -15,10 +14,10 @@ use Rattle.node_core.specs.Node.Answer.{IsStray}
 use Rattle.tree_world.specs.Packets.{Packet}
 use Rattle.tree_world.specs.Network.{Network, node_at, top_jobs}
 use Rattle.tree_laws.specs.Laws.{IsPrefixOfParent, ActedOnce, AreJobsInOrder, NamesHeldJobs, IsTaken, outcome_at, flat_outcome, IsOutcomeFlat, IsReportFlat, IsReportSoFar, has_returned}
-use Rattle.tree_world.specs.Report.{row_of, report, flat_report, by_id, placed, place_for}
+use Rattle.tree_world.specs.Report.{row_of, report, flat_report, by_id}
 use Rattle.node_core.specs.declared.job.Row.{Row}
-use Rattle.std.specs.List.{All, Contains, filter_map, fold, cons_option}
-use Rattle.std.proofs.lemmas.List.Elements.{All-nil, All-cons, All-weaker, All-same, All-filter, All-contains_itself, recursion_from_All, All-from_recursion, All-append, All-take, All-drop}
+use Rattle.std.specs.List.{All, Contains, filter_map, cons_option}
+use Rattle.std.proofs.lemmas.List.Elements.{All-weaker, All-same, All-filter, All-contains_itself, recursion_from_All, All-from_recursion}
 use Rattle.tree_laws.specs.Lists.{IsPrefix}
 use Rattle.tree_laws.specs.Invariant.{IsSent, Names, IsPair, Holds}
 use Rattle.tree_laws.proofs.Lists.{prefix_both, all_imply}
@@ -26,9 +25,10 @@ use Rattle.tree_laws.proofs.Trees.{branch_in, parent_before, parent_test, minion
 use Rattle.tree_laws.proofs.Calls.{took, FitsReply}
 use Rattle.tree_laws.proofs.Turns.{minions_in}
 use Rattle.tree_laws.proofs.Places.{IsMinionIn}
+use Rattle.tree_laws.proofs.Rows.{by_id_all}
 use Rattle.tree_laws.proofs.Chains.{chain, acts_flat, acts_without, return_prefix, return_acts}
 
-pub prefix_law : (f : List Member) (w : Network) (c : ℕ) → IsFleet f → Holds f w → 0 < c → c < length f → IsPrefixOfParent f w c
+pub prefix_law : (f : Tree) (w : Network) (c : ℕ) → IsTree f → Holds f w → 0 < c → c < length f → IsPrefixOfParent f w c
 prefix_law f w c fleet h lo up =
     let p : ℕ = parent_of f c in
     let before : p < c = parent_before f c fleet lo in
@@ -43,7 +43,7 @@ prefix_law f w c fleet h lo up =
       known_ups = λ m i. g.known_ups m (branch_in f fleet p c m (parent_test f c lo up) i);
     }
 
-pub acted_law : (f : List Member) (w : Network) (m : ℕ) → Holds f w → m < length f → is_minion f m ≡ true → ActedOnce f w m
+pub acted_law : (f : Tree) (w : Network) (m : ℕ) → Holds f w → m < length f → is_minion f m ≡ true → ActedOnce f w m
 acted_law f w m h up z =
     let g = (h.each m up).minion z in
     let id : List ℕ = id_of f m in
@@ -66,7 +66,7 @@ pub flat_prefix : (id : List ℕ) (xs ys : List Job) → IsPrefix xs ys → IsPr
 flat_prefix id xs ys p = (_, sym (flat_join 0 id xs p.0) ∙ ap (λ (l : List Job). flat_up 0 id l) p.1)
 
 -- an outcome that a node has is that of the flat minion
-pub outcome_law : (f : List Member) (w : Network) (p m seq : ℕ) (o : Outcome) → IsFleet f → Holds f w → m < length f → is_minion f m ≡ true → is_within f p m ≡ true
+pub outcome_law : (f : Tree) (w : Network) (p m seq : ℕ) (o : Outcome) → IsTree f → Holds f w → m < length f → is_minion f m ≡ true → is_within f p m ≡ true
     → outcome_at f w p m seq ≡ Some o → flat_outcome f (top_jobs w) m seq ≡ Some o
 outcome_law f w p m seq o fleet h up z i e =
     let id : List ℕ = id_of f m in
@@ -77,20 +77,11 @@ outcome_law f w p m seq o fleet h up z i e =
     ap (return_of seq) (sym a.entries) ∙ return_acts seq (log id (node_at w.nodes m).records) ∙ own in
     return_prefix seq o _ _ (flat_take (jobs_held (node_at w.nodes m).records) id (top_jobs w)) mine
 
--- a list in another order has the same elements
-all_placed : (f : List Member) (P : ℕ → Type 0) (order : List ℕ) (m : ℕ) → All P order → P m → All P (placed f order m)
-all_placed f P order m h x =
-    All-append P (take (place_for f m order) order) (m ∷ drop (place_for f m order) order) (All-take P (place_for f m order) order h) (All-cons P m (drop (place_for f m order) order) x (All-drop P (place_for f m order) order h))
-
-all_by_id : (f : List Member) (P : ℕ → Type 0) (ms order : List ℕ) → AllByRecursion P ms → All P order → All P (fold (placed f) order ms)
-all_by_id f P [] order h g = g
-all_by_id f P (m ∷ ms) order h g = all_by_id f P ms (placed f order m) h.1 (all_placed f P order m g h.0)
-
-minions_by_id : (f : List Member) → All (IsMinionIn f 0) (by_id f (minions f 0))
-minions_by_id f = all_by_id f (IsMinionIn f 0) (minions f 0) [] (minions_in f 0) (All-nil (IsMinionIn f 0))
+minions_by_id : (f : Tree) → All (IsMinionIn f 0) (by_id f (minions f 0))
+minions_by_id f = by_id_all f (IsMinionIn f 0) (minions f 0) (All-from_recursion (IsMinionIn f 0) (minions f 0) (minions_in f 0))
 
 -- what one gives, the other gives too
-abbrev Keeps : List Member → (List ℕ → Option Outcome) → (List ℕ → Option Outcome) → ℕ → Type 0
+abbrev Keeps : Tree → (List ℕ → Option Outcome) → (List ℕ → Option Outcome) → ℕ → Type 0
 Keeps f some more m = (o : Outcome) → some (id_of f m) ≡ Some o → more (id_of f m) ≡ Some o
 
 -- where what one gives the other gives too, the rows of the one are those of the other that it has
@@ -108,7 +99,7 @@ more_rows id some (Some o) (Some n) xs ys e g h =
     let same : n ≡ o = cc in
     rw (same, e) (ap (λ (rest : List Row). record { id = id; outcome = o } ∷ rest) h)
 
-rows_so_far : (f : List Member) (some more : List ℕ → Option Outcome) (ms : List ℕ) → AllByRecursion (Keeps f some more) ms
+rows_so_far : (f : Tree) (some more : List ℕ → Option Outcome) (ms : List ℕ) → AllByRecursion (Keeps f some more) ms
     → filter_map (λ m. row_of (id_of f m) (some (id_of f m))) ms ≡ filter (has some) (filter_map (λ m. row_of (id_of f m) (more (id_of f m))) ms)
 rows_so_far f some more [] h = refl
 rows_so_far f some more (m ∷ ms) h =
@@ -117,7 +108,7 @@ rows_so_far f some more (m ∷ ms) h =
     refl h.0 (rows_so_far f some more ms h.1)
 
 -- more jobs than the top has may be given
-pub so_far_law : (f : List Member) (w : Network) (js : List Job) (seq : ℕ) → IsFleet f → Holds f w → IsPrefix (top_jobs w) js → IsReportSoFar f js w seq
+pub so_far_law : (f : Tree) (w : Network) (js : List Job) (seq : ℕ) → IsTree f → Holds f w → IsPrefix (top_jobs w) js → IsReportSoFar f js w seq
 so_far_law f w js seq fleet h p =
     let some : List ℕ → Option Outcome = λ id. return_of seq (log id (node_at w.nodes 0).records) in
     let more : List ℕ → Option Outcome = λ id. return_of seq (flat_up 0 id js) in
@@ -127,7 +118,7 @@ so_far_law f w js seq fleet h p =
     (λ m i o e. return_prefix seq o _ _ (flat_prefix (id_of f m) _ _ p) (outcome_law f w 0 m seq o fleet h (minion_low f m i.minion) i.minion i.within e))
     (by_id f (minions f 0)) (minions_by_id f)))
 
-pub report_law : (f : List Member) (w : Network) (js : List Job) (seq : ℕ) → IsFleet f → Holds f w → IsPrefix (top_jobs w) js → IsReportFlat f js w seq
+pub report_law : (f : Tree) (w : Network) (js : List Job) (seq : ℕ) → IsTree f → Holds f w → IsPrefix (top_jobs w) js → IsReportFlat f js w seq
 report_law f w js seq fleet h p =
     let all : List Row = flat_report f js seq in
     All-same (Contains all) (report f (node_at w.nodes 0).records seq) (filter (has_returned w seq) all) (so_far_law f w js seq fleet h p)
@@ -137,26 +128,26 @@ if_some : {X : Type 0} (P : X → Type 0) (o : Option X) → ((x : X) → o ≡ 
 if_some P None g = tt
 if_some P (Some x) g = g x refl
 
-pub outcomes_law : (f : List Member) (w : Network) (p m seq : ℕ) → IsFleet f → Holds f w → m < length f → is_minion f m ≡ true → is_within f p m ≡ true → IsOutcomeFlat f w p m seq
+pub outcomes_law : (f : Tree) (w : Network) (p m seq : ℕ) → IsTree f → Holds f w → m < length f → is_minion f m ≡ true → is_within f p m ≡ true → IsOutcomeFlat f w p m seq
 outcomes_law f w p m seq fleet h up z i =
     if_some (λ o. flat_outcome f (top_jobs w) m seq ≡ Some o) (outcome_at f w p m seq) (λ o e. outcome_law f w p m seq o fleet h up z i e)
 
-pub jobs_law : (f : List Member) (w : Network) → Holds f w → AreJobsInOrder (top_jobs w)
+pub jobs_law : (f : Tree) (w : Network) → Holds f w → AreJobsInOrder (top_jobs w)
 jobs_law f w h = record { few = h.few; rising = h.rising }
 
-pub names_law : (f : List Member) (w : Network) (i : ℕ) → Holds f w → i < length f → NamesHeldJobs w i
+pub names_law : (f : Tree) (w : Network) (i : ℕ) → Holds f w → i < length f → NamesHeldJobs w i
 names_law f w i h l = λ id. All-from_recursion (Names (jobs_held (node_at w.nodes i).records)) (log id (node_at w.nodes i).records) ((h.each i l).names id)
 
-pub packets_law : (f : List Member) (w : Network) → Holds f w → All (IsSent f w.nodes) w.packets
+pub packets_law : (f : Tree) (w : Network) → Holds f w → All (IsSent f w.nodes) w.packets
 packets_law f w h = All-from_recursion (IsSent f w.nodes) w.packets h.sent
 
-stray_never : (f : List Member) (me to : ℕ) (node : NodeState) (answer : Answer) (cause : Stray) → FitsReply f me to node answer → answer ≡ IsStray cause → ⊥
+stray_never : (f : Tree) (me to : ℕ) (node : NodeState) (answer : Answer) (cause : Stray) → FitsReply f me to node answer → answer ≡ IsStray cause → ⊥
 stray_never f me to node answer cause g e = rw e at g
 
-pub taken_law : (f : List Member) (w : Network) (p : Packet) → IsFleet f → Holds f w → IsSent f w.nodes p → IsTaken f w p
+pub taken_law : (f : Tree) (w : Network) (p : Packet) → IsTree f → Holds f w → IsSent f w.nodes p → IsTaken f w p
 taken_law f w p fleet h s = λ cause e.
-    let t = taken f p.to.0 p.from.0 p.message (node_at w.nodes p.to.0) in
-    stray_never f p.to.0 p.from.0 t.node t.answer cause (took f w p.from.0 p.to.0 p.message fleet h s.fits).1 e
+    let t = taken f p.to p.from p.message (node_at w.nodes p.to) in
+    stray_never f p.to p.from t.node t.answer cause (took f w p.from p.to p.message fleet h s.fits).1 e
 
-pub none_stray_law : (f : List Member) (w : Network) → IsFleet f → Holds f w → All (IsTaken f w) w.packets
+pub none_stray_law : (f : Tree) (w : Network) → IsTree f → Holds f w → All (IsTaken f w) w.packets
 none_stray_law f w fleet h = All-from_recursion (IsTaken f w) w.packets (all_imply (IsSent f w.nodes) (IsTaken f w) (λ p s. taken_law f w p fleet h s) w.packets h.sent)

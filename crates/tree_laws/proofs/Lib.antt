@@ -6,6 +6,8 @@ pub mod Steps
 pub mod Chains
 pub mod Calls
 pub mod Turns
+pub mod Ascends
+pub mod Rows
 pub mod Laws
 pub mod Grows
 pub mod Runs

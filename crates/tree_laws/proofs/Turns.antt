@@ -11,7 +11,9 @@ use Rattle.node_core.specs.declared.job.Job.{Job}
 use Rattle.node_core.specs.declared.record.Entry.{Entry}
 use Rattle.node_core.specs.declared.record.Record.TheVariants.{Publish, Boot}
 use Rattle.node_core.specs.declared.message.Message.{Message}
-use Rattle.fleet_config.specs.Tree.{member, id_of, parent_of, is_minion, is_parent, is_within, IsFleet, up_to, minions, runs_jobs}
+use Rattle.fleet_config.specs.Limits.{most_jobs}
+use Rattle.fleet_config.specs.Fleet.{FleetConfig, IsFleet}
+use Rattle.fleet_config.specs.Tree.{Tree, member, id_of, parent_of, is_minion, is_parent, is_within, IsTree, up_to, minions, runs_jobs}
 use Rattle.node_core.specs.Flat.{last_jid, is_after, is_later}
 use Rattle.node_core.specs.Records.{jobs, jobs_held, log}
 use Rattle.node_core.specs.Counts.{known}
@@ -20,9 +22,10 @@ use Rattle.node_core.specs.declared.faults.PublishFault.TheVariants.{JidEnd}
 use Rattle.salt_value.specs.Jid.{next_jid, greatest_jid}
 use Rattle.std.specs.Option.{ok_or}
 use Rattle.std.specs.Prelude.{min}
-use Rattle.tree_world.specs.declared.turn.Turn.{Turn}
-use Rattle.tree_world.specs.declared.turn.Turn.TheVariants as kind
-use Rattle.tree_world.specs.Network.{Network, node_at, start, top_jobs, with_node, with_packets, published, packet, sent, received, delivered, after, after_all, IsTurn}
+use Rattle.fleet_turns.specs.declared.turn.Turn.{Turn}
+use Rattle.fleet_turns.specs.declared.turn.Turn.TheVariants as kind
+use Rattle.tree_world.specs.Network.{Network, node_at, start, top_jobs, with_node, with_packets, published, packet, sent, received, delivered, after, after_all, most_sent}
+use Rattle.fleet_turns.specs.Turns.{IsTurn}
 use Rattle.tree_laws.specs.Invariant.{Fits, IsSent, Names, IsNode, IsPair, Holds}
 use Rattle.tree_laws.proofs.Lists.{prefix_same, all_join, all_imply, all_at, all_map, all_take, at_drop}
 use Rattle.tree_laws.proofs.Trees.{IsChild, child, parent_before, both}
@@ -37,19 +40,19 @@ pub by_receiver : (P : Network → Type 0) (there : Bool) (w v : Network) → P 
 by_receiver P true w v a b = b
 by_receiver P false w v a b = a
 
-pub delivered_step : (f : List Member) (w : Network) (i : ℕ) → IsFleet f → Holds f w → Holds f (delivered f w (slice_get w.packets i))
+pub delivered_step : (f : FleetConfig) (w : Network) (i : ℕ) → IsTree f.tree → Holds f.tree w → Holds f.tree (delivered f w (slice_get w.packets i))
 delivered_step f w i fleet h = elim (slice_get_cases w.packets i).1 [
-  | inl c ↦ rw c.2 (by_receiver (Holds f) (nat_lt c.0.to.0 (length w.nodes)) w (received f w c.0) h
-      (received_step f w c.0 fleet h (all_at (IsSent f w.nodes) w.packets i c.0 h.sent c.2)))
+  | inl c ↦ rw c.2 (by_receiver (Holds f.tree) (nat_lt c.0.to (length w.nodes)) w (received f w c.0) h
+      (received_step f w c.0 fleet h (all_at (IsSent f.tree w.nodes) w.packets i c.0 h.sent c.2)))
   | inr c ↦ rw c.1 h
 ]
 
 -- the top is a master
-pub top_master : (f : List Member) → IsFleet f → is_minion f 0 ≡ false
+pub top_master : (f : Tree) → IsTree f → is_minion f 0 ≡ false
 top_master f fleet = ap runs_jobs fleet.top
 
 -- publish: one record at the top
-master_add : (f : List Member) (a : NodeState) (job : Job) → is_minion f 0 ≡ false → IsNode f (jobs a.records) 0 a
+master_add : (f : Tree) (a : NodeState) (job : Job) → is_minion f 0 ≡ false → IsNode f (jobs a.records) 0 a
     → IsNode f (jobs (a.records ++ Publish job ∷ [])) 0 (with_record (Publish job) a)
 master_add f a job z h = record {
   runs = h.runs;
@@ -61,7 +64,7 @@ master_add f a job z h = record {
   names = λ id. rw (log_publish, held_push) (all_imply (Names (jobs_held a.records)) (Names (jobs_held a.records + 1)) (names_more _ _ (omega arith)) (log id a.records) (h.names id));
 }
 
-add_step : (f : List Member) (w : Network) (job : Job) → IsFleet f → Holds f w → length (top_jobs w) < 65535 → is_later (top_jobs w) job ≡ true
+add_step : (f : Tree) (w : Network) (job : Job) → IsTree f → Holds f w → length (top_jobs w) < most_jobs → is_later (top_jobs w) job ≡ true
     → Holds f (with_node w 0 (with_record (Publish job) (node_at w.nodes 0)))
 add_step f w job fleet h few late =
     let a : NodeState = node_at w.nodes 0 in
@@ -88,23 +91,24 @@ next_later (Some last) moment jid e =
     lt-ltb last jid (omega arith)
 
 -- whatever holds of the network as it was, and as it is with the record, holds after a publication
-pub published_either : (P : Network → Type 0) (w : Network) (moment : ℕ) (tgt : List ℕ) → P w
-    → ((jid : ℕ) → length (top_jobs w) < 65535 → is_after (last_jid (top_jobs w)) jid ≡ true → P (with_node w 0 (with_record (Publish (record { jid = jid; tgt = tgt })) (node_at w.nodes 0))))
-    → P (published tgt (publication moment (top_jobs w)) w)
-published_either P w moment tgt old more = elim (leb_tells 65535 (length (top_jobs w))) [
+pub published_either : (P : Network → Type 0) (w : Network) (max_jobs moment : ℕ) (tgt : List ℕ) → P w
+    → ((jid : ℕ) → length (top_jobs w) < max_jobs → is_after (last_jid (top_jobs w)) jid ≡ true → P (with_node w 0 (with_record (Publish (record { jid = jid; tgt = tgt })) (node_at w.nodes 0))))
+    → P (published tgt (publication max_jobs moment (top_jobs w)) w)
+published_either P w max_jobs moment tgt old more = elim (leb_tells max_jobs (length (top_jobs w))) [
   | inl y ↦ rw y.0 old
   | inr y ↦ rw y.0 (go (omega arith) (next_jid (last_jid (top_jobs w)) moment) refl)
 ] where
-  go : length (top_jobs w) < 65535 → (o : Option ℕ) → next_jid (last_jid (top_jobs w)) moment ≡ o → P (published tgt (ok_or o JidEnd) w)
+  go : length (top_jobs w) < max_jobs → (o : Option ℕ) → next_jid (last_jid (top_jobs w)) moment ≡ o → P (published tgt (ok_or o JidEnd) w)
   go few None e = old
   go few (Some jid) e = more jid few (next_later (last_jid (top_jobs w)) moment jid e)
 
-publish_step : (f : List Member) (w : Network) (moment : ℕ) (tgt : List ℕ) → IsFleet f → Holds f w → Holds f (published tgt (publication moment (top_jobs w)) w)
+publish_step : (f : FleetConfig) (w : Network) (moment : ℕ) (tgt : List ℕ) → IsFleet f → Holds f.tree w → Holds f.tree (published tgt (publication f.max_jobs moment (top_jobs w)) w)
 publish_step f w moment tgt fleet h =
-    published_either (Holds f) w moment tgt h (λ jid few late. add_step f w (record { jid = jid; tgt = tgt }) fleet h few late)
+    published_either (Holds f.tree) w f.max_jobs moment tgt h
+    (λ jid few late. add_step f.tree w (record { jid = jid; tgt = tgt }) fleet.tree h (let l = fleet.jobs in omega arith) late)
 
 -- send: what is pending may be sent
-pubs_fit : (f : List Member) (me to : ℕ) (node : NodeState) → is_parent f me to ≡ true → (seq : ℕ) (js : List Job)
+pubs_fit : (f : Tree) (me to : ℕ) (node : NodeState) → is_parent f me to ≡ true → (seq : ℕ) (js : List Job)
     → ((k : ℕ) (job : Job) → slice_get js k ≡ Some job → slice_get (jobs node.records) (seq + k) ≡ Some job) → AllByRecursion (Fits f me to node) (pubs_from seq js)
 pubs_fit f me to node p seq [] g = tt
 pubs_fit f me to node p seq (j ∷ js) g = (
@@ -112,7 +116,7 @@ pubs_fit f me to node p seq (j ∷ js) g = (
   pubs_fit f me to node p (seq + 1) js (λ k job at. let e : seq + 1 + k ≡ seq + suc k = omega arith in rw e (g (suc k) job at)),
 )
 
-ups_fit : (f : List Member) (me to : ℕ) (id : List ℕ) (node : NodeState) → is_parent f to me ≡ true → is_here f me id ≡ true → (n : ℕ) (es : List Entry)
+ups_fit : (f : Tree) (me to : ℕ) (id : List ℕ) (node : NodeState) → is_parent f to me ≡ true → is_here f me id ≡ true → (n : ℕ) (es : List Entry)
     → ((k : ℕ) (entry : Entry) → slice_get es k ≡ Some entry → slice_get (log id node.records) (n + k) ≡ Some entry) → AllByRecursion (Fits f me to node) (ups_from id n es)
 ups_fit f me to id node p q n [] g = tt
 ups_fit f me to id node p q n (entry ∷ es) g = (
@@ -129,7 +133,7 @@ pub all_filter : (test : ℕ → Bool) (xs : List ℕ) → AllByRecursion (λ x.
 all_filter test [] = tt
 all_filter test (x ∷ xs) = kept_by test x xs (all_filter test xs) (test x) refl
 
-pub minions_in : (f : List Member) (a : ℕ) → AllByRecursion (IsMinionIn f a) (minions f a)
+pub minions_in : (f : Tree) (a : ℕ) → AllByRecursion (IsMinionIn f a) (minions f a)
 minions_in f a = all_imply (λ m. (is_minion f m && is_within f a m) ≡ true) (IsMinionIn f a)
     (λ m e. let b = both (is_minion f m) (is_within f a m) e in record { minion = b.0; within = b.1 }) (minions f a) (all_filter (λ m. is_minion f m && is_within f a m) (up_to (length f)))
 
@@ -137,7 +141,7 @@ all_flat : {X Y : Type 0} (P : X → Type 0) (Q : Y → Type 0) (g : X → List 
 all_flat P Q g each [] h = tt
 all_flat P Q g each (x ∷ xs) h = all_join Q (g x) (flat_map g xs) (each x h.0) (all_flat P Q g each xs h.1)
 
-not_both : (f : List Member) (a b : ℕ) → IsFleet f → is_parent f a b ≡ true → is_parent f b a ≡ false
+not_both : (f : Tree) (a b : ℕ) → IsTree f → is_parent f a b ≡ true → is_parent f b a ≡ false
 not_both f a b fleet p =
     let ch : IsChild f a b = child f a b p in
     let x : a < b = rw ch.parent at (parent_before f b fleet ch.some) in
@@ -150,7 +154,7 @@ not_both f a b fleet p =
           let dh : IsChild f b a = child f b a e in
           let y : b < a = rw dh.parent at (parent_before f a fleet dh.some) in omega arith)
 
-pending_fits : (f : List Member) (me to : ℕ) (node : NodeState) → IsFleet f → (is_parent f me to ≡ true) ⊎ (is_parent f to me ≡ true) → AllByRecursion (Fits f me to node) (pending f me to node)
+pending_fits : (f : Tree) (me to : ℕ) (node : NodeState) → IsTree f → (is_parent f me to ≡ true) ⊎ (is_parent f to me ≡ true) → AllByRecursion (Fits f me to node) (pending f me to node)
 pending_fits f me to node fleet (inl p) =
     let count : ℕ = known node.known_jobs to in
     rw p (pubs_fit f me to node p count (drop count (jobs node.records)) (λ k job at. rw (at_drop count (jobs node.records) k) at at))
@@ -163,22 +167,22 @@ pending_fits f me to node fleet (inr p) =
           (minions f me) (minions_in f me),
     )
 
-send_step : (f : List Member) (w : Network) (from to count : ℕ) → Holds f w → from < length f → to < length f → AllByRecursion (Fits f from to (node_at w.nodes from)) (pending f from to (node_at w.nodes from))
-    → Holds f (with_packets w (sent f from to count w))
+send_step : (f : FleetConfig) (w : Network) (from to count : ℕ) → Holds f.tree w → from < length f.tree → to < length f.tree → AllByRecursion (Fits f.tree from to (node_at w.nodes from)) (pending f.tree from to (node_at w.nodes from))
+    → Holds f.tree (with_packets w (sent f from to count w))
 send_step f w from to count h lf lt g =
-    let all : List Message = pending f from to (node_at w.nodes from) in
-    packets_step f w (sent f from to count w) h
-    (all_map (Fits f from to (node_at w.nodes from)) (IsSent f w.nodes) (packet from to) (λ message x. record { from = lf; to = lt; fits = x }) (take (min count 4294967295) all)
-    (all_take (Fits f from to (node_at w.nodes from)) (min count 4294967295) all g))
+    let all : List Message = pending f.tree from to (node_at w.nodes from) in
+    packets_step f.tree w (sent f from to count w) h
+    (all_map (Fits f.tree from to (node_at w.nodes from)) (IsSent f.tree w.nodes) (packet from to) (λ message x. record { from = lf; to = lt; fits = x }) (take (min count most_sent) all)
+    (all_take (Fits f.tree from to (node_at w.nodes from)) (min count most_sent) all g))
 
-pub after_step : (f : List Member) (turn : Turn) (w : Network) → IsFleet f → IsTurn f turn → Holds f w → Holds f (after f turn w)
+pub after_step : (f : FleetConfig) (turn : Turn) (w : Network) → IsFleet f → IsTurn f turn → Holds f.tree w → Holds f.tree (after f turn w)
 after_step f (kind.Publish moment tgt) w fleet t h = publish_step f w moment tgt fleet h
-after_step f (kind.Send from to count) w fleet t h = send_step f w from.0 to.0 count h t.0 t.1 (pending_fits f from.0 to.0 (node_at w.nodes from.0) fleet t.3)
-after_step f (kind.Deliver i) w fleet t h = delivered_step f w i fleet h
+after_step f (kind.Send from to count) w fleet t h = send_step f w from to count h t.0 t.1 (pending_fits f.tree from to (node_at w.nodes from) fleet.tree t.3)
+after_step f (kind.Deliver i) w fleet t h = delivered_step f w i fleet.tree h
 after_step f (kind.Report jid) w fleet t h = h
 after_step f (kind.Packet i) w fleet t h = h
 
-pub run_holds : (f : List Member) (turns : List Turn) (w : Network) → IsFleet f → AllByRecursion (IsTurn f) turns → Holds f w → Holds f (after_all f turns w)
+pub run_holds : (f : FleetConfig) (turns : List Turn) (w : Network) → IsFleet f → AllByRecursion (IsTurn f) turns → Holds f.tree w → Holds f.tree (after_all f turns w)
 run_holds f [] w fleet t h = h
 run_holds f (turn ∷ turns) w fleet t h = run_holds f turns (after f turn w) fleet t.1 (after_step f turn w fleet t.0 h)
 
@@ -186,12 +190,12 @@ run_holds f (turn ∷ turns) w fleet t h = run_holds f turns (after f turn w) fl
 first_of : Bool → NodeState
 first_of t = record { minion = t; records = if t then Boot ∷ [] else []; known_jobs = []; known_ups = [] }
 
-first_at : (f : List Member) (i : ℕ) → i < length f → node_at (map first_node f) i ≡ first_node (member f i)
+first_at : (f : Tree) (i : ℕ) → i < length f → node_at (map first_node f) i ≡ first_node (member f i)
 first_at [] i l = absurd (omega arith)
 first_at (s ∷ f) zero l = refl
 first_at (s ∷ f) (suc i) l = first_at f i (omega arith)
 
-first_holds : (f : List Member) (top : List Job) (i : ℕ) (t : Bool) → is_minion f i ≡ t → IsNode f top i (first_of t)
+first_holds : (f : Tree) (top : List Job) (i : ℕ) (t : Bool) → is_minion f i ≡ t → IsNode f top i (first_of t)
 unfolding first_of
 first_holds f top i true z = record {
   runs = sym z;
@@ -206,7 +210,7 @@ first_holds f top i false z = record {
   names = λ id. tt;
 }
 
-first_pair : (f : List Member) (p c : ℕ) (t : Bool) → IsPair f p c (first_of false) (first_of t)
+first_pair : (f : Tree) (p c : ℕ) (t : Bool) → IsPair f p c (first_of false) (first_of t)
 unfolding first_of
 first_pair f p c true = record { held = omega arith; known_jobs = omega arith; logs = λ m e. (_, refl); known_ups = λ m e. omega arith }
 first_pair f p c false = record { held = omega arith; known_jobs = omega arith; logs = λ m e. (_, refl); known_ups = λ m e. omega arith }
@@ -215,17 +219,17 @@ first_is : (m : Member) → first_node m ≡ first_of (runs_jobs m.role)
 unfolding first_of
 first_is m = refl
 
-first_jobs : (f : List Member) → IsFleet f → top_jobs (start f) ≡ []
+first_jobs : (f : FleetConfig) → IsTree f.tree → top_jobs (start f) ≡ []
 unfolding first_of
-first_jobs f fleet = rw (first_at f 0 fleet.some, fleet.top) refl
+first_jobs f fleet = rw (first_at f.tree 0 fleet.some, fleet.top) refl
 
-pub start_holds : (f : List Member) → IsFleet f → Holds f (start f)
-start_holds f fleet = record {
-  size = length-map f first_node;
+pub start_holds : (f : FleetConfig) → IsTree f.tree → Holds f.tree (start f)
+start_holds f fleet = let t : Tree = f.tree in record {
+  size = length-map t first_node;
   few = rw (first_jobs f fleet) (omega arith);
   rising = rw (first_jobs f fleet) refl;
-  each = λ i u. rw (first_at f i u, first_is (member f i)) (first_holds f _ i (is_minion f i) refl);
-  pairs = λ c lo u. let b = parent_before f c fleet lo in
-      rw (first_at f c u, first_at f (parent_of f c) (omega arith), first_is (member f c), first_is (member f (parent_of f c)), fleet.master c lo u) (first_pair f (parent_of f c) c (is_minion f c));
+  each = λ i u. rw (first_at t i u, first_is (member t i)) (first_holds t _ i (is_minion t i) refl);
+  pairs = λ c lo u. let b = parent_before t c fleet lo in
+      rw (first_at t c u, first_at t (parent_of t c) (omega arith), first_is (member t c), first_is (member t (parent_of t c)), fleet.master c lo u) (first_pair t (parent_of t c) c (is_minion t c));
   sent = tt;
 }
