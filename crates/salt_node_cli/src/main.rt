@@ -2,6 +2,8 @@
 #![tactic(auto)]
 
 mod replay;
+#[cfg(test)]
+mod tests;
 
 use replay::salt_main;
 use salt_outside::{StdSink, StdSource};
