@@ -21,8 +21,11 @@ fn words_of(rt: &HostRuntime) -> io::Result<Vec<Text>> {
 
 fn main(rt: HostRuntime) -> ExitCode {
     let alloc = rt.alloc();
-    let Ok(words) = words_of(&rt) else {
-        return ExitCode::from(1);
+    let words = match words_of(&rt) {
+        Ok(words) => words,
+        // A word that is no UTF-8 is in no command, and no words are no command either.
+        Err(error) if matches!(error.kind(), io::ErrorKind::InvalidData) => Vec::new(alloc),
+        Err(_) => return ExitCode::from(1),
     };
     let mut source = StdSource::new(rt.stdin());
     let mut sink = StdSink::new(rt.stdout());

@@ -1,16 +1,19 @@
-ghost use Rattle.std.specs.Prelude.{◌≡◌, ◌≢◌, ◌≤◌, ◌∷◌, [], ◌↔◌, codes, length, IsTrue, IfOk, OnOk, OnErr, IsErrOf};
-ghost use Rattle.salt_outside.specs.Causes.{Rose};
+//! The commands: a script is read, and the text of its run written.
+ghost use Rattle.std.specs.Prelude.{◌≡◌, ◌≢◌, ◌∷◌, [], ◌↔◌, codes, length, IsTrue, IfOk, OnOk, OnErr, IsErrOf};
+ghost use Rattle.salt_outside.specs.Causes.{CountsFaults};
 ghost use Rattle.salt_outside.specs.Streams.{appended, IsPart};
 ghost use Rattle.std.specs.List.{AllByRecursion};
-ghost use Rattle.tree_world.specs.Network.{IsTurn};
+ghost use Rattle.fleet_turns.specs.Turns.{IsTurn};
 ghost use Rattle.tree_world.specs.Text.{text_from};
 ghost use Rattle.script_text.specs.Script.{IsScript};
-ghost use Rattle.salt_replay.specs.Replay.{text_of_script, refused_line, IsLineTold, IsNoCommand, Replayed, StaysSound};
+ghost use Rattle.salt_replay.specs.Replay.{text_of_script, refused_line, DoesSpell, IsLineTold, IsNoCommand, Replayed, StaysSound};
+ghost use Rattle.salt_replay.specs.Printed.{IsPrinted, HasPrinted};
 ghost use Rattle.script_text.specs.declared.script.Script.{Script};
 
+use fleet_config::Fleet;
 use salt_outside::{Outside, ReadAll, Sink, Source, read_all};
 use salt_value::Text;
-use script_text::{Script, ScriptFault, read_script};
+use script_text::{MOST_SCRIPT_BYTES, Script, ScriptFault, read_script};
 use std::alloc::{AllocError, Global};
 use tree_laws::whole_runs;
 use tree_world::{StepFault, Turn, World, tell};
@@ -21,16 +24,12 @@ pub struct Status {
     pub code: u8,
 }
 
-/// The greatest number of bytes of a script.
-const LIMIT: usize = 16_777_216;
-
 // Runs the turns, and prints the text.
 fn run_turns<K: Sink>(world: &mut World, turns: &[Turn], sink: &mut K) -> Result<(), StepFault>
     requires { AllByRecursion (IsTurn world.old.fleet) turns.now }
     ensures text { OnOk result (K.held sink.new ≡ appended (K.held sink.old) (text_from world.old.fleet turns.now world.old.network)) }
     ensures part { IsPart (K.held sink.old) (K.held sink.new) (text_from world.old.fleet turns.now world.old.network) }
-    ensures fault { IsErrOf result StepFault.WriteFault → Rose (K.faults sink.old) (K.faults sink.new) }
-    ensures later { K.faults sink.old ≤ K.faults sink.new }
+    ensures faults { CountsFaults (IsErrOf result StepFault.WriteFault) (K.faults sink.old) (K.faults sink.new) }
 {
     for turn in turns {
         world.step(turn, sink)?;
@@ -43,22 +42,22 @@ fn play<K: Sink>(alloc: Global, script: Script, sink: &mut K) -> Result<(), Step
     requires { IsScript script }
     ensures text { OnOk result (K.held sink.new ≡ appended (K.held sink.old) (text_of_script script)) }
     ensures part { IsPart (K.held sink.old) (K.held sink.new) (text_of_script script) }
-    ensures fault { IsErrOf result StepFault.WriteFault → Rose (K.faults sink.old) (K.faults sink.new) }
-    ensures later { K.faults sink.old ≤ K.faults sink.new }
+    ensures faults { CountsFaults (IsErrOf result StepFault.WriteFault) (K.faults sink.old) (K.faults sink.new) }
 {
     let Script {
         top,
         minions,
         turns,
     } = script;
-    let mut world = World::new(alloc, top, minions)?;
+    let mut world = World::of(alloc, Fleet::flat(alloc, top, minions)?)?;
     run_turns(&mut world, turns.as_slice(), sink)
 }
 
 // Writes the one line of a run. A sink that fails holds a front of it.
 fn write_line<K: Sink>(sink: &mut K, line: &[u8]) -> Result<(), AllocError>
-    ensures told { OnOk result (IsLineTold line.now (K.held sink.old) (K.held sink.new) (K.faults sink.old) (K.faults sink.new)) }
-    ensures memory { OnErr result (K.held sink.new ≡ K.held sink.old) }
+    ensures ok { OnOk result (IsLineTold line.now (K.held sink.old) (K.held sink.new) (K.faults sink.old) (K.faults sink.new)) }
+    ensures err { OnErr result (K.held sink.new ≡ K.held sink.old) }
+    ensures memory { OnErr result (K.faults sink.new ≡ K.faults sink.old) }
 {
     match sink.write(line) {
         Ok(()) | Err(Outside::Failed) => Ok(()),
@@ -68,8 +67,9 @@ fn write_line<K: Sink>(sink: &mut K, line: &[u8]) -> Result<(), AllocError>
 
 // Writes the line that refuses a script.
 fn write_refusal<K: Sink>(alloc: Global, line: u32, sink: &mut K) -> Result<(), AllocError>
-    ensures told { OnOk result (IsLineTold (refused_line line) (K.held sink.old) (K.held sink.new) (K.faults sink.old) (K.faults sink.new)) }
-    ensures memory { OnErr result (K.held sink.new ≡ K.held sink.old) }
+    ensures ok { OnOk result (IsLineTold (refused_line line) (K.held sink.old) (K.held sink.new) (K.faults sink.old) (K.faults sink.new)) }
+    ensures err { OnErr result (K.held sink.new ≡ K.held sink.old) }
+    ensures memory { OnErr result (K.faults sink.new ≡ K.faults sink.old) }
 {
     let text = refusal_text(alloc, line)?;
     write_line(sink, &text)
@@ -93,21 +93,32 @@ fn scripts_stay_sound()
     whole_runs();
 }
 
+// What each script prints.
+fn scripts_print_sound()
+    ensures { (script : Script) → IsScript script → IsPrinted script (text_of_script script) }
+{
+    whole_runs();
+}
+
 /// Reads a script and writes the text of its run. Status 0 is a whole run, 1 want of memory, 3 a text that is no script, 4 a source
-/// that failed, 5 a sink that failed, and 12 a source of over 16,777,216 bytes.
+/// that failed, 5 a sink that failed, and 12 a source of over 16,777,216 bytes. The statuses are this project's own.
 pub fn run_replay<S: Source, K: Sink>(alloc: Global, source: &mut S, sink: &mut K) -> Status
+    ensures printed { (script : Script) → DoesSpell script (S.left source.old) → result.code ≡ 0 → HasPrinted script (K.held sink.old) (K.held sink.new) }
     ensures sound { (script : Script) → IsScript script → StaysSound script }
-    ensures replayed { Replayed (S.left source.old) (S.faults source.old) (S.faults source.new) (K.held sink.old) (K.held sink.new) (K.faults sink.old) (K.faults sink.new) result.code }
+    ensures replayed { Replayed (S.left source.old) (S.left source.new) (S.faults source.old) (S.faults source.new)
+        (K.held sink.old) (K.held sink.new) (K.faults sink.old) (K.faults sink.new) result.code }
 {
     scripts_stay_sound();
+    scripts_print_sound();
     replay_script(alloc, source, sink)
 }
 
 // Reads a script and runs it.
 fn replay_script<S: Source, K: Sink>(alloc: Global, source: &mut S, sink: &mut K) -> Status
-    ensures { Replayed (S.left source.old) (S.faults source.old) (S.faults source.new) (K.held sink.old) (K.held sink.new) (K.faults sink.old) (K.faults sink.new) result.code }
+    ensures { Replayed (S.left source.old) (S.left source.new) (S.faults source.old) (S.faults source.new)
+        (K.held sink.old) (K.held sink.new) (K.faults sink.old) (K.faults sink.new) result.code }
 {
-    let text = match read_all(alloc, source, LIMIT) {
+    let text = match read_all(alloc, source, MOST_SCRIPT_BYTES) {
         Ok(text) => text,
         Err(ReadAll::NoMemory) => return Status { code: 1 },
         Err(ReadAll::ReadFault) => return Status { code: 4 },
@@ -135,18 +146,21 @@ fn replay_script<S: Source, K: Sink>(alloc: Global, source: &mut S, sink: &mut K
     }
 }
 
-/// Runs the command that the words are: the one word `replay`. Status 2 says that they are no command.
+/// Runs the command that the words are: the one word `replay`. Status 2 says that they are no command, and leaves the source as it was.
 pub fn salt_main<S: Source, K: Sink>(
     alloc: Global,
     words: &[Text],
     source: &mut S,
     sink: &mut K,
 ) -> Status
+    ensures printed { words.now ≡ codes "replay" ∷ [] →
+        (script : Script) → DoesSpell script (S.left source.old) → result.code ≡ 0 → HasPrinted script (K.held sink.old) (K.held sink.new) }
     ensures sound { words.now ≡ codes "replay" ∷ [] → (script : Script) → IsScript script → StaysSound script }
-    ensures replay { words.now ≡ codes "replay" ∷ [] →
-        Replayed (S.left source.old) (S.faults source.old) (S.faults source.new) (K.held sink.old) (K.held sink.new)
-        (K.faults sink.old) (K.faults sink.new) result.code }
+    ensures replayed { words.now ≡ codes "replay" ∷ [] →
+        Replayed (S.left source.old) (S.left source.new) (S.faults source.old) (S.faults source.new)
+        (K.held sink.old) (K.held sink.new) (K.faults sink.old) (K.faults sink.new) result.code }
     ensures no_command { words.now ≢ codes "replay" ∷ [] → IsNoCommand (K.held sink.old) (K.held sink.new) (K.faults sink.old) (K.faults sink.new) result.code }
+    ensures source { words.now ≢ codes "replay" ∷ [] → source.new ≡ source.old }
 {
     if is_replay(words) {
         run_replay(alloc, source, sink)

@@ -2,7 +2,8 @@
 use crate::made::{FAILED, Sown, TREE, grown, id, pair, sow};
 use fleet_config::{Fleet, MOST_JOBS, NodeFault, Role};
 use salt_value::{MinionId, NodeId};
-use std::alloc::Global;
+use sqlite_items::Items;
+use std::alloc::{AllocError, Global};
 use std::process::Abort;
 
 // Nodes that are added in order to a fleet, and what it answers: the place, or why it stays as it was.
@@ -162,6 +163,30 @@ static TREE_NODES: [(u32, &str, Role, u32); 6] = [
     (4, "m2", Role::Minion, 3),
     (5, "m3", Role::Minion, 0),
 ];
+
+// The same flat tree as PAIR, made at once.
+fn flat(alloc: Global) -> Result<Fleet, AllocError> {
+    let Ok(top) = MinionId::read("top") else {
+        return Err(AllocError);
+    };
+    let Ok(m2) = MinionId::read("m2") else {
+        return Err(AllocError);
+    };
+    let Ok(m1) = MinionId::read("m1") else {
+        return Err(AllocError);
+    };
+    let mut minions = Items::new(alloc);
+    minions.push(m2)?;
+    minions.push(m1)?;
+    Fleet::flat(alloc, top, minions)
+}
+
+#[test]
+fn a_flat_fleet_is_made_at_once(rt: HostRuntime) {
+    let fleet = flat(rt.alloc()).expect(&rt, FAILED);
+    has_nodes(&rt, &fleet, &PAIR_NODES);
+    finds(&rt, &fleet, &PAIR_PLACES);
+}
 
 #[test]
 fn nodes_are_told_by_their_places(rt: HostRuntime) {

@@ -2,7 +2,6 @@
 use fleet_config::{Fleet, FleetNode, NodeFault, Role};
 use node_core::Glob;
 use salt_value::{MinionId, NodeId, Text};
-use sqlite_items::Items;
 use std::alloc::Global;
 use std::process::Abort;
 
@@ -22,6 +21,13 @@ pub static TREE: [Sown; 6] = [
     ("m3", Role::Minion, Some(0)),
 ];
 
+/// A flat tree.
+pub static PAIR: [Sown; 3] = [
+    ("top", Role::Top, None),
+    ("m2", Role::Minion, Some(0)),
+    ("m1", Role::Minion, Some(0)),
+];
+
 /// The id that a text is.
 pub fn id(rt: &impl Abort, text: &str) -> MinionId {
     MinionId::read(text).expect(rt, FAILED)
@@ -29,13 +35,7 @@ pub fn id(rt: &impl Abort, text: &str) -> MinionId {
 
 /// A top with the minions m2 and m1, in this order.
 pub fn pair(rt: &impl Abort, alloc: Global) -> Fleet {
-    let top = MinionId::read("top").expect(rt, FAILED);
-    let m2 = MinionId::read("m2").expect(rt, FAILED);
-    let m1 = MinionId::read("m1").expect(rt, FAILED);
-    let mut minions = Items::new(alloc);
-    minions.push(m2).expect(rt, FAILED);
-    minions.push(m1).expect(rt, FAILED);
-    Fleet::flat(alloc, top, minions).expect(rt, FAILED)
+    grown(rt, alloc, &PAIR)
 }
 
 /// What a fleet answers where this node is added.
