@@ -8,5 +8,5 @@ invariant-loop-turn g l = record {
   told : (front : List ℕ) × (g.K.Sink.held l.sink ≡ appended (g.K.Sink.held l.initial.sink) front)
       × (front ++ text_from l.world.fleet (drop l.turn-index l.turns) l.world.network ≡ text_from l.initial.world.fleet l.turns l.initial.world.network);
   fleet : l.world.fleet ≡ l.initial.world.fleet;
-  later : g.K.Sink.faults l.initial.sink ≤ g.K.Sink.faults l.sink;
+  faults : g.K.Sink.faults l.sink ≡ g.K.Sink.faults l.initial.sink;
 }
