@@ -1,6 +1,6 @@
 -- A message of a node that was sent is heard.
-use Rattle.std.proofs.Common.{◌≡◌, ℕ, Bool, true, ◌&&◌, List, ◌++◌, refl, sym, ap, subst, ◌∙◌, if◌then◌else◌}
-use Rattle.std.specs.Prelude.{Some, None, Option, unwrap_or}
+use Rattle.std.proofs.Common.{◌≡◌, Bool, true, refl, sym, ap, ◌∙◌, if◌then◌else◌}
+use Rattle.std.specs.Prelude.{Some, None, unwrap_or}
 use Rattle.salt_value.specs.declared.value.Value.{out-roll-Value}
 use Rattle.salt_value.specs.declared.value.Value.TheOpen.{Value-F}
 use Rattle.salt_value.specs.declared.value.Value.TheVariants.{Flag, rolls-Flag}

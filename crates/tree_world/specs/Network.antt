@@ -1,5 +1,5 @@
 -- The network machine: the nodes of a fleet, and the list of all packets ever sent. Each turn is one step.
-use Rattle.std.specs.Prelude.{ℕ, min, true, false, List, [], ◌∷◌, ◌++◌, length, map, take, slice_get, slice_set, Option, None, Some, Result, Ok, Err, nat_lt, if◌then◌else◌}
+use Rattle.std.specs.Prelude.{ℕ, min, false, List, [], ◌∷◌, ◌++◌, length, map, take, slice_get, slice_set, Option, None, Some, Result, Ok, Err, nat_lt, if◌then◌else◌}
 use Rattle.std.specs.List.{slice_index_or}
 use Rattle.fleet_config.specs.Fleet.{FleetConfig}
 use Rattle.node_core.specs.declared.job.Job.{Job}
@@ -71,7 +71,7 @@ with_reply p (IsStray cause) packets = packets
 with_reply p Silent packets = packets
 with_reply p (Reply message) packets = packets ++ packet p.to p.from message ∷ []
 
--- the packets, with a reply, if there is one
+-- No public contract cites it. The packets, with a reply, if there is one
 abbrev pub replied : Packet → Option Message → List Packet → List Packet
 replied p None packets = packets
 replied p (Some message) packets = packets ++ packet p.to p.from message ∷ []

@@ -1,5 +1,5 @@
 -- Packets: the messages of nodes on their way. The body of a packet is the spelling of its message between nodes.
-use Rattle.std.specs.Prelude.{ℕ, ◌≡◌, Bool, true, false, List, [], codes, Option, None, Some, unwrap_or, Result, Ok, Err, nat_le, ◌&&◌, length, if◌then◌else◌}
+use Rattle.std.specs.Prelude.{ℕ, ◌≡◌, Bool, List, [], codes, Option, None, Some, unwrap_or, Result, Ok, Err, nat_le, ◌&&◌, length, if◌then◌else◌}
 use Rattle.salt_value.specs.declared.value.Value.{Value, out-Value}
 use Rattle.salt_value.specs.declared.value.Value.TheOpen.{Value-F}
 use Rattle.salt_value.specs.declared.value.Value.TheVariants.{Flag}

@@ -7,9 +7,9 @@ ghost use Rattle.tree_world.specs.Network as network;
 ghost use Rattle.salt_outside.specs.Causes.{CountsFaults};
 ghost use Rattle.salt_outside.specs.Streams.{appended, IsPart};
 
+use crate::Packet;
 use crate::report::{rows_of, sort_by_id};
 use crate::text::{missing_text, number_of, packet_text, publish_text, rows_text, unknown_text};
-use crate::Packet;
 use fleet_config::Fleet;
 use fleet_turns::Turn;
 use node_core::{Glob, Message, Node, PendFault, PublishFault, TakeFault};

@@ -1,7 +1,7 @@
-use Rattle.std.proofs.Common.{◌≡◌, ◌++◌, sym, ap, subst, ◌∙◌}
+use Rattle.std.proofs.Common.{◌++◌, sym, ap, subst, ◌∙◌}
 use Rattle.salt_wire.specs.Spelling.{body}
 use Rattle.salt_wire.specs.Limits.{Within}
-use Rattle.tree_world.specs.Packets.{IsBody, sent_message, body_of, message_in}
+use Rattle.tree_world.specs.Packets.{IsBody, message_in}
 use Rattle.tree_world.proofs.Bodies.{message_is, is_body}
 use Rattle.tree_world.proofs.packet.body_of.Goals as goal
 

@@ -1,5 +1,4 @@
-use Rattle.std.proofs.Common.{rules, refl, ◌<◌, length}
-use Rattle.std.specs.Ordering.{is_lt}
+use Rattle.std.proofs.Common.{rules, ◌<◌, length}
 use Rattle.std.proofs.lemmas.List.Sorted.{All-permutation}
 use Rattle.std.proofs.lemmas.Fn.{always_returns_same}
 use Rattle.fleet_config.specs.Tree.{id_of}
