@@ -1,3 +1,4 @@
+//! A node, and the calls on it.
 ghost use Rattle.std.specs.Prelude.{◌≡◌, ◌≢◌, ◌++◌, ◌∷◌, [], ◌<◌, ◌≤◌, ◌+◌, ◌-◌, ◌==◌, ◌^◌, ℕ, List, Option, Some, None, Ok, Err, true, false, not, drop, take, length, All, IfOk, IfErr, IfSome, OnOk, OnErr, IsOk, IsErrOf, bytes_eq, if◌then◌else◌};
 ghost use Rattle.fleet_config.specs.Limits.{most_jobs};
 ghost use Rattle.fleet_config.specs.Causes.{first_cause};

@@ -4,7 +4,11 @@ use Rattle.node_core.proofs.Known.{known_some, known_none}
 use Rattle.node_core.proofs.counts.Counts.known.Goals as goal
 
 pub returns-in-Some : goal.returns-in-Some
-returns-in-Some c = subst (λ (es : List (ℕ × ℕ)). c.in-Some.count.now ≡ known es c.args.node) c.self.view_is (known_some c.self.inside.map.entries c.args.node c.in-Some.count.now c.in-Some.ensures.value)
+returns-in-Some c = record {
+  value = subst (λ (es : List (ℕ × ℕ)). c.in-Some.count.now ≡ known es c.args.node) c.self.view_is (known_some c.self.inside.map.entries c.args.node c.in-Some.count.now c.in-Some.ensures.value);
+}
 
 pub returns-in-None : goal.returns-in-None
-returns-in-None c = subst (λ (es : List (ℕ × ℕ)). 0 ≡ known es c.args.node) c.self.view_is (known_none c.self.inside.map.entries c.args.node c.in-None.ensures.value)
+returns-in-None c = record {
+  value = subst (λ (es : List (ℕ × ℕ)). 0 ≡ known es c.args.node) c.self.view_is (known_none c.self.inside.map.entries c.args.node c.in-None.ensures.value);
+}
