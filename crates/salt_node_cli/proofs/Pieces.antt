@@ -1,14 +1,12 @@
 -- The text of a script is one of pieces.
 use Rattle.std.proofs.Common.{◌≡◌, ℕ, zero, suc, List, [], ◌∷◌, ◌++◌, length, take, drop, refl, ap, ◌∙◌, sym, subst, append_assoc, take-append-drop}
-use Rattle.std.specs.Prelude.{Option, None, Some, slice_get, codes, All, Contains}
+use Rattle.std.specs.Prelude.{Option, None, Some, slice_get, codes}
 use Rattle.std.specs.List.{concat}
-use Rattle.fleet_config.specs.Tree.{Tree}
 use Rattle.fleet_config.specs.Fleet.{FleetConfig}
-use Rattle.node_core.specs.declared.job.Job.{Job}
 use Rattle.fleet_turns.specs.declared.turn.Turn.{Turn}
 use Rattle.fleet_turns.specs.declared.turn.Turn.TheVariants.{Report}
 use Rattle.tree_world.specs.Network.{Network, node_at, start, after, after_all, top_jobs}
-use Rattle.tree_world.specs.Report.{report, flat_report}
+use Rattle.tree_world.specs.Report.{report}
 use Rattle.tree_world.specs.Text.{line, printed, text_from, report_text, number_of}
 use Rattle.tree_laws.specs.Laws.{AscendById, IsReportFlat}
 use Rattle.script_text.specs.declared.script.Script.{Script}

@@ -1,4 +1,4 @@
-use Rattle.std.proofs.Common.{◌≡◌, ◌≤◌, ◌++◌, List, ℕ, drop}
+use Rattle.std.proofs.Common.{◌≡◌, ◌++◌, List, ℕ, drop}
 use Rattle.salt_outside.specs.Streams.{appended}
 use Rattle.tree_world.specs.Text.{text_from}
 use Rattle.salt_node_cli.proofs.replay.run_turns.Given as goal
