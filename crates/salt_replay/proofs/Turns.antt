@@ -6,8 +6,8 @@ use Rattle.salt_outside.proofs.Parts.{part_after, part_front}
 use Rattle.salt_outside.proofs.Reading.{appended-appended}
 use Rattle.std.proofs.Common.{subst}
 use Rattle.std.proofs.Math.ListN.{drop_of_length-le}
-use Rattle.fleet_config.specs.declared.fleet.Member.{Member}
-use Rattle.tree_world.specs.declared.turn.Turn.{Turn}
+use Rattle.fleet_config.specs.Fleet.{FleetConfig}
+use Rattle.fleet_turns.specs.declared.turn.Turn.{Turn}
 use Rattle.tree_world.specs.Network.{Network, after}
 use Rattle.tree_world.specs.Text.{text_from, printed}
 
@@ -15,13 +15,13 @@ drop_past : {X : Type 0} (xs : List X) (i : ℕ) → length xs ≤ i → drop i 
 drop_past xs i h = drop_of_length-le xs h
 
 -- the text from a turn on
-pub text_step : (f : List Member) (turns : List Turn) (i : ℕ) (turn : Turn) (w : Network) → i < length turns → turn ≡ get_or turns i turn
+pub text_step : (f : FleetConfig) (turns : List Turn) (i : ℕ) (turn : Turn) (w : Network) → i < length turns → turn ≡ get_or turns i turn
     → text_from f (drop i turns) w ≡ printed f turn w ++ text_from f (drop (i + 1) turns) (after f turn w)
 text_step f turns i turn w h e =
     let next : drop i turns ≡ turn ∷ drop (i + 1) turns = drop-cons turns i turn h ∙ rw (add-one, ← e) refl in
     ap (λ ts. text_from f ts w) next
 
-pub text_end : (f : List Member) (turns : List Turn) (i : ℕ) (w : Network) → length turns ≤ i → text_from f (drop i turns) w ≡ text_from f [] w
+pub text_end : (f : FleetConfig) (turns : List Turn) (i : ℕ) (w : Network) → length turns ≤ i → text_from f (drop i turns) w ≡ text_from f [] w
 text_end f turns i w h = ap (λ ts. text_from f ts w) (drop_past turns i h)
 
 -- what a turn printed in part, of the text of all

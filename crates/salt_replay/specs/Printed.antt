@@ -1,5 +1,6 @@
 -- What was printed: a piece for each turn of a script, and what the piece of a report is.
-use Rattle.std.specs.Prelude.{◌≡◌, ℕ, List, ◌++◌, length, take, concat, codes, slice_get, Option, None, Some, All, Contains}
+use Rattle.std.specs.Prelude.{◌≡◌, ℕ, List, ◌++◌, length, take, codes, slice_get, Option, None, Some, All, Contains}
+use Rattle.std.specs.List.{concat}
 use Rattle.salt_outside.specs.Streams.{appended}
 use Rattle.fleet_config.specs.Tree.{Tree}
 use Rattle.node_core.specs.declared.job.Job.{Job}

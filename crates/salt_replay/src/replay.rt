@@ -97,6 +97,7 @@ fn scripts_stay_sound()
 fn scripts_print_sound()
     ensures { (script : Script) → IsScript script → IsPrinted script (text_of_script script) }
 {
+    scripts_stay_sound();
     whole_runs();
 }
 

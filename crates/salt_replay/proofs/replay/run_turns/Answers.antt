@@ -19,10 +19,10 @@ loop-turn-preserved g c =
       told = (
         told.0 ++ printed c.loop-turn.world.fleet turn c.loop-turn.world.network,
         told_more _ _ _ told.0 _ told.1 done.text,
-        append_assoc told.0 _ _ ∙ (rw (done.state, c.step.ensures.fleet) (ap (λ t. told.0 ++ t) (sym step) ∙ told.2)),
+        append_assoc told.0 _ _ ∙ (rw (done.ok, c.step.ensures.fleet) (ap (λ t. told.0 ++ t) (sym step) ∙ told.2)),
       );
       fleet = c.step.ensures.fleet ∙ c.loop-turn.invariant.fleet;
-      later = omega (arith, c.loop-turn.invariant.later, c.step.ensures.later);
+      faults = done.faults.kept (λ e. cc) ∙ c.loop-turn.invariant.faults;
     }
 
 pub returns-clause-part : goal.returns-clause-part
