@@ -13,6 +13,7 @@ use Rattle.tree_world.specs.Text.{line, printed, rows_text, unknown_text, number
 use Rattle.tree_laws.specs.Laws.{network_after, AscendById}
 use Rattle.script_text.specs.declared.script.Script.{Script}
 use Rattle.script_text.specs.Script.{fleet_of}
+use Rattle.salt_replay.specs.Replay.{DoesSpell}
 
 -- the network before turn number i of a script, from 0
 abbrev pub network_before : Script → ℕ → Network
@@ -42,3 +43,7 @@ pub record IsPrinted (s : Script) (text : List ℕ) : Type 0 where
 -- The sink holds what it held before, and then such a text.
 abbrev pub HasPrinted : Script → Option (List ℕ) → Option (List ℕ) → Type 0
 HasPrinted s held_before held_now = (text : List ℕ) × (held_now ≡ appended held_before text) × IsPrinted s text
+
+-- Over a source that is told and has the text of a script left, status 0 leaves the sink so.
+abbrev pub PrintsScripts : Option (List ℕ) → Option (List ℕ) → Option (List ℕ) → ℕ → Type 0
+PrintsScripts left held_before held_now code = (s : Script) → DoesSpell s left → code ≡ 0 → HasPrinted s held_before held_now

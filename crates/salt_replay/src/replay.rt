@@ -6,8 +6,8 @@ ghost use Rattle.std.specs.List.{AllByRecursion};
 ghost use Rattle.fleet_turns.specs.Turns.{IsTurn};
 ghost use Rattle.tree_world.specs.Text.{text_from};
 ghost use Rattle.script_text.specs.Script.{IsScript};
-ghost use Rattle.salt_replay.specs.Replay.{text_of_script, refused_line, DoesSpell, IsLineTold, IsNoCommand, Replayed, StaysSound};
-ghost use Rattle.salt_replay.specs.Printed.{IsPrinted, HasPrinted};
+ghost use Rattle.salt_replay.specs.Replay.{text_of_script, refused_line, IsLineTold, IsNoCommand, Replayed, StaysSound};
+ghost use Rattle.salt_replay.specs.Printed.{IsPrinted, PrintsScripts};
 ghost use Rattle.script_text.specs.declared.script.Script.{Script};
 
 use fleet_config::Fleet;
@@ -104,7 +104,7 @@ fn scripts_print_sound()
 /// Reads a script and writes the text of its run. Status 0 is a whole run, 1 want of memory, 3 a text that is no script, 4 a source
 /// that failed, 5 a sink that failed, and 12 a source of over 16,777,216 bytes. The statuses are this project's own.
 pub fn run_replay<S: Source, K: Sink>(alloc: Global, source: &mut S, sink: &mut K) -> Status
-    ensures printed { (script : Script) → DoesSpell script (S.left source.old) → result.code ≡ 0 → HasPrinted script (K.held sink.old) (K.held sink.new) }
+    ensures printed { PrintsScripts (S.left source.old) (K.held sink.old) (K.held sink.new) result.code }
     ensures sound { (script : Script) → IsScript script → StaysSound script }
     ensures replayed { Replayed (S.left source.old) (S.left source.new) (S.faults source.old) (S.faults source.new)
         (K.held sink.old) (K.held sink.new) (K.faults sink.old) (K.faults sink.new) result.code }
@@ -155,7 +155,7 @@ pub fn salt_main<S: Source, K: Sink>(
     sink: &mut K,
 ) -> Status
     ensures printed { words.now ≡ codes "replay" ∷ [] →
-        (script : Script) → DoesSpell script (S.left source.old) → result.code ≡ 0 → HasPrinted script (K.held sink.old) (K.held sink.new) }
+        PrintsScripts (S.left source.old) (K.held sink.old) (K.held sink.new) result.code }
     ensures sound { words.now ≡ codes "replay" ∷ [] → (script : Script) → IsScript script → StaysSound script }
     ensures replayed { words.now ≡ codes "replay" ∷ [] →
         Replayed (S.left source.old) (S.left source.new) (S.faults source.old) (S.faults source.new)
