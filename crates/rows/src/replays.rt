@@ -6,7 +6,8 @@ use salt_value::Text;
 use std::alloc::{AllocError, Global};
 
 /// A top with the minions m1 and m2.
-const PAIR: &str = "%fleet|nodes:|- id: top|  role: top|- id: m1|  role: minion|  parent: top|- id: m2|  role: minion|  parent: top|%schedule|";
+const PAIR: &str =
+    "%fleet|nodes:|- id: top|  role: top|- id: m1|  role: minion|  parent: top|- id: m2|  role: minion|  parent: top|%schedule|";
 
 /// What a script writes, and the status.
 pub fn replay(alloc: Global, script: &str) -> Result<String, AllocError> {
@@ -22,14 +23,24 @@ pub fn pair(alloc: Global, turns: &str) -> Result<String, AllocError> {
 pub fn failing_read(alloc: Global, rest: &str) -> Result<String, AllocError> {
     let (number, turns) = cut(rest);
     let script = pair_of(alloc, turns)?;
-    run(alloc, script.as_str(), number.parse::<u64>().unwrap_or(0), 0)
+    run(
+        alloc,
+        script.as_str(),
+        number.parse::<u64>().unwrap_or(0),
+        0,
+    )
 }
 
 /// The same where the write of this number fails, from 1.
 pub fn failing_write(alloc: Global, rest: &str) -> Result<String, AllocError> {
     let (number, turns) = cut(rest);
     let script = pair_of(alloc, turns)?;
-    run(alloc, script.as_str(), 0, number.parse::<u64>().unwrap_or(0))
+    run(
+        alloc,
+        script.as_str(),
+        0,
+        number.parse::<u64>().unwrap_or(0),
+    )
 }
 
 /// What these words do over an empty schedule.
