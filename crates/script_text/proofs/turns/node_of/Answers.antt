@@ -12,7 +12,7 @@ pub returns-in_default : goal.returns-in_default
 returns-in_default c =
     λ x h e.
     let P : List ℕ → Type 0 = IsId in
-    let no = (c.in_default.ensures {u = tt}).succeeds (subst P e (name_of_node c.args.ids.now.keys x c.requires h)) in
+    let no = (c.in_default.ensures {u = tt}).complete (subst P e (name_of_node c.args.ids.now.keys x c.requires h)) in
     cc
 
 pub returns-in-Some : goal.returns-in-Some
