@@ -12,7 +12,7 @@ returns-then-starts-clause-value c =
     let p = regex_source c.args.pattern.now in
     let i = c.loop-name.name-index in
     let d = c.loop-name-item.result in
-    let one : starts p d.0 ≡ true = ap (starts p) (sym c.as_str.ensures) ∙ sym c.starts.ensures.value ∙ c.if-starts.true in
+    let one : starts p d.0 ≡ true = ap (starts p) (sym c.as_str.ensures.value) ∙ sym c.starts.ensures.value ∙ c.if-starts.true in
     sym (keys-told (reached (starts p)) (starts p) c.args.pairs.now ∙ c.loop-name.invariant.same
     ∙ any-some (λ q. starts p q.0) c.args.pairs.now i d c.loop-name-test.true (ap (λ q. starts p q.0) (sym c.loop-name-item.is) ∙ one))
 
