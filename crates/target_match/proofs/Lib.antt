@@ -4,3 +4,4 @@ pub mod Meeting
 pub mod ById
 pub mod Readied
 pub mod Leaves
+pub mod Keeping

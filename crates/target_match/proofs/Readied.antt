@@ -152,7 +152,7 @@ not_part tree one e h =
     sym (ap is_by_id (of-Not one ∙ sym (T.rolls-Not (target_of one))) ∙ fold-roll-Target Bool by_id_layer (Target-F.Not (target_of one)))
     ∙ ap (λ t. is_by_id (target_of t)) (sym e) ∙ h
 
-both_true : (a b : Bool) → (a && b) ≡ true → (a ≡ true) × (b ≡ true)
+pub both_true : (a b : Bool) → (a && b) ≡ true → (a ≡ true) × (b ≡ true)
 both_true true b h = (refl, h)
 both_true false b h = absurd cc
 

@@ -1,6 +1,7 @@
 //! Whether a ready tree holds for a minion.
 ghost use Rattle.std.specs.Prelude.{◌≡◌, IfOk, IsOk, IsTrue};
-ghost use Rattle.target_match.specs.Holds.{holds, is_by_id};
+ghost use Rattle.target_match.specs.Holds.{holds, is_by_id, patterns};
+ghost use Rattle.target_match.specs.Searches.{Keeps};
 ghost use Rattle.target_match.specs.Ready.{target_of};
 
 use crate::data::pairs_meet;
@@ -21,6 +22,7 @@ pub fn holds<'m>(
     pillar: &[(Text, Value)],
 ) -> Result<bool, AllocError>
     ensures value { IfOk result (λ b. b ≡ holds (target_of ready.now) id.now grains.now pillar.now) }
+    ensures searches { Keeps (patterns (target_of ready.now)) searches.old.items searches.new.items }
     ensures memory { IsTrue (is_by_id (target_of ready.now)) → IsOk result }
 {
     match ready {

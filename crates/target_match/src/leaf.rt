@@ -1,8 +1,9 @@
 //! Patterns of leaves with what is made of them once. Contracts see the text of the leaf.
-ghost use Rattle.std.specs.Prelude.{◌≡◌, IfOk, IfErr};
+ghost use Rattle.std.specs.Prelude.{◌≡◌, [], ◌∷◌, Some, IfOk, IfErr};
 ghost use Rattle.target_match.specs.Paths.{parts, pattern_of};
 ghost use Rattle.target_match.specs.Patterns.{IsReadable, starts};
 ghost use Rattle.target_match.specs.Holds.{pattern_holds};
+ghost use Rattle.target_match.specs.Searches.{Keeps};
 ghost use Rattle.target_match.specs.Building.{IsRefusalOf};
 
 use crate::BuildFault;
@@ -52,7 +53,8 @@ impl IdPattern {
         searches: &mut Vec<Search<'m>>,
         id: &str,
     ) -> Result<bool, AllocError>
-        ensures { IfOk result (λ b. b ≡ starts self.now id.now) }
+        ensures value { IfOk result (λ b. b ≡ starts self.now id.now) }
+        ensures searches { Keeps (Some self.now ∷ []) searches.old.items searches.new.items }
     {
         let place = made(alloc, searches, &self.regex)?;
         let search = &mut searches[place];
@@ -102,7 +104,8 @@ impl DataPattern {
         searches: &mut Vec<Search<'m>>,
         fields: &[(Text, Value)],
     ) -> Result<bool, AllocError>
-        ensures { IfOk result (λ b. b ≡ pattern_holds self.now fields.now) }
+        ensures value { IfOk result (λ b. b ≡ pattern_holds self.now fields.now) }
+        ensures searches { Keeps (Some (pattern_of (parts self.now)) ∷ []) searches.old.items searches.new.items }
     {
         let place = made(alloc, searches, &self.regex)?;
         let search = &mut searches[place];

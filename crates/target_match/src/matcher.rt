@@ -1,6 +1,7 @@
 //! A target that is ready for matching.
 ghost use Rattle.std.specs.Prelude.{◌≡◌, ℕ, [], IfOk, IsOk, IsErrOf, IsTrue};
 ghost use Rattle.target_match.specs.Holds.{Data, holds, is_by_id, decided, patterns, AreReadable, IsBadAt, IsBigAt, IsToldAs};
+ghost use Rattle.target_match.specs.Searches.{Keeps};
 
 use crate::BuildFault;
 use crate::building::ready;
@@ -72,7 +73,8 @@ impl Matcher {
         Searches::new(self.alloc)
     }
 
-    /// What `holds` answers. A search that it makes stays for the next minion, also after want of memory.
+    /// What `holds` answers. The searches that are there stay for the next minion, also after want of memory, and none is made
+    /// for a pattern that has one.
     pub fn holds_with<'m>(
         &'m self,
         searches: &mut Searches<'m>,
@@ -81,6 +83,7 @@ impl Matcher {
         pillar: &Fields,
     ) -> Result<bool, AllocError>
         ensures value { IfOk result (λ b. b ≡ holds self.now id.now grains.now pillar.now) }
+        ensures searches { Keeps (patterns self.now) searches.old searches.new }
         ensures memory { IsTrue (is_by_id self.now) → IsOk result }
     {
         holds(

@@ -1,8 +1,9 @@
 //! Searches for patterns, made once for any number of minions.
-ghost use Rattle.std.specs.Prelude.{◌≡◌, ◌<◌, [], length, slice_index_or, IfOk, IfSome};
+ghost use Rattle.std.specs.Prelude.{◌≡◌, ◌<◌, [], ◌∷◌, Some, length, position, bytes_eq, slice_index_or, IfOk};
 ghost use Rattle.regex.specs.Strings.{regex_source};
 ghost use Rattle.target_match.specs.Patterns.{IsCompiled, starts};
 ghost use Rattle.target_match.specs.Data.{map_reached, reached_pairs};
+ghost use Rattle.target_match.specs.Searches.{Keeps};
 
 use crate::pattern::starts;
 use crate::reach::pairs_reached;
@@ -50,7 +51,8 @@ impl<'m> Search<'m> {
 
     /// Whether a text begins with the pattern.
     pub fn starts(&mut self, text: &str) -> bool
-        ensures { result ≡ starts self.old text.now }
+        ensures value { result ≡ starts self.old text.now }
+        ensures kept { self.new ≡ self.old }
     {
         starts(&mut self.matcher, self.regex, text)
     }
@@ -62,22 +64,18 @@ impl<'m> Search<'m> {
         fields: &[(Text, Value)],
         path: &[Text],
     ) -> Result<bool, AllocError>
-        ensures { IfOk result (λ b. b ≡ map_reached (starts self.old) (reached_pairs (starts self.old) fields.now) path.now) }
+        ensures value { IfOk result (λ b. b ≡ map_reached (starts self.old) (reached_pairs (starts self.old) fields.now) path.now) }
+        ensures kept { self.new ≡ self.old }
     {
         pairs_reached(alloc, &mut self.matcher, self.regex, fields, path)
     }
 }
 
+/// The place of the search for this pattern, if there is one.
 fn place_of(searches: &[Search<'_>], source: &str) -> Option<usize>
-    ensures within { IfSome result (λ place. place < length searches.now) }
-    ensures same { IfSome result (λ place. slice_index_or searches.now place [] ≡ source.now) }
+    ensures { result ≡ position (bytes_eq source.now) searches.now }
 {
-    for place in 0..searches.len() {
-        if searches[place].source() == source {
-            return Some(place);
-        }
-    }
-    None
+    searches.iter().position(|search| source == search.source())
 }
 
 /// The place of the search for this pattern, which is made where there is none yet.
@@ -89,17 +87,20 @@ pub fn made<'m>(
     requires { IsCompiled regex.now }
     ensures within { IfOk result (λ place. place < length searches.new.items) }
     ensures same { IfOk result (λ place. slice_index_or searches.new.items place [] ≡ regex_source regex.now) }
+    ensures searches { Keeps (Some (regex_source regex.now) ∷ []) searches.old.items searches.new.items }
 {
-    if let Some(place) = place_of(searches.as_slice(), regex.as_str()) {
-        return Ok(place);
+    match place_of(searches.as_slice(), regex.as_str()) {
+        Some(place) => Ok(place),
+        None => {
+            let place = searches.len();
+            searches.push(Search::new(alloc, regex)?)?;
+            Ok(place)
+        }
     }
-    let place = searches.len();
-    searches.push(Search::new(alloc, regex)?)?;
-    Ok(place)
 }
 
 /// The searches that were made for the patterns of one matcher. Handed to each decision, they are made but once for
-/// all minions. Contracts see the texts of their patterns.
+/// all minions. Contracts see the texts of their patterns, in the order in which they were made.
 #[derive(Drop)]
 pub struct Searches<'m> {
     pub(crate) made: Vec<Search<'m>>,

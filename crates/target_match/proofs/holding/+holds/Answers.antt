@@ -9,6 +9,7 @@ use Rattle.target_match.specs.Holds.{holds, is_by_id}
 use Rattle.target_match.specs.Ready.{target_of}
 use Rattle.target_match.proofs.Meeting.{carried, glob-holds}
 use Rattle.target_match.proofs.Readied as R
+use Rattle.target_match.proofs.Keeping as K
 use Rattle.target_match.proofs.holding.+holds.Goals as goal
 
 pub returns-in-IdGlob-clause-value : goal.returns-in-IdGlob-clause-value
@@ -20,7 +21,7 @@ returns-in-IdGlob-clause-value t c =
 pub returns-in-IdPcre-clause-value : goal.returns-in-IdPcre-clause-value
 returns-in-IdPcre-clause-value t c =
     let a = c.args in
-    carried c.holds.result _ _ c.holds.ensures (ap (starts c.in-IdPcre.pattern) c.as_str.ensures.value
+    carried c.holds.result _ _ c.holds.ensures.value (ap (starts c.in-IdPcre.pattern) c.as_str.ensures.value
     ∙ sym (R.holds-IdPcre c.in-IdPcre.pattern a.id.now a.grains.now a.pillar.now) ∙ ap (λ x. holds (target_of x) a.id.now a.grains.now a.pillar.now) (sym c.in-IdPcre.is))
 
 pub returns-in-IdList-clause-value : goal.returns-in-IdList-clause-value
@@ -40,7 +41,7 @@ returns-in-GrainGlob-clause-value t c =
 pub returns-in-GrainPcre-clause-value : goal.returns-in-GrainPcre-clause-value
 returns-in-GrainPcre-clause-value t c =
     let a = c.args in
-    carried c.holds-in-GrainPcre.result _ _ c.holds-in-GrainPcre.ensures
+    carried c.holds-in-GrainPcre.result _ _ c.holds-in-GrainPcre.ensures.value
     (sym (R.holds-GrainPcre c.in-GrainPcre.pattern a.id.now a.grains.now a.pillar.now) ∙ ap (λ x. holds (target_of x) a.id.now a.grains.now a.pillar.now) (sym c.in-GrainPcre.is))
 
 pub returns-in-PillarGlob-clause-value : goal.returns-in-PillarGlob-clause-value
@@ -53,7 +54,7 @@ returns-in-PillarGlob-clause-value t c =
 pub returns-in-PillarPcre-clause-value : goal.returns-in-PillarPcre-clause-value
 returns-in-PillarPcre-clause-value t c =
     let a = c.args in
-    carried c.holds-in-PillarPcre.result _ _ c.holds-in-PillarPcre.ensures
+    carried c.holds-in-PillarPcre.result _ _ c.holds-in-PillarPcre.ensures.value
     (sym (R.holds-PillarPcre c.in-PillarPcre.pattern a.id.now a.grains.now a.pillar.now) ∙ ap (λ x. holds (target_of x) a.id.now a.grains.now a.pillar.now) (sym c.in-PillarPcre.is))
 
 pub returns-in_ok-holds-in-Not-clause-value : goal.returns-in_ok-holds-in-Not-clause-value
@@ -91,6 +92,43 @@ returns-else-branch-clause-value t c =
     carried c.holds-in-Or-2.result _ _ c.holds-in-Or-2.ensures.value (ap (λ x. holds (target_of x) a.id.now a.grains.now a.pillar.now) c.get-in-Or-2.ensures
     ∙ R.or_rest _ _ _ left c.if-branch.false
     ∙ sym (R.holds-Or c.in-Or.left c.in-Or.right a.id.now a.grains.now a.pillar.now) ∙ ap (λ x. holds (target_of x) a.id.now a.grains.now a.pillar.now) (sym c.in-Or.is))
+
+pub returns-in-IdPcre-clause-searches : goal.returns-in-IdPcre-clause-searches
+returns-in-IdPcre-clause-searches t c = K.id_leaf c.args.ready.now c.in-IdPcre.pattern _ _ c.in-IdPcre.is c.holds.ensures.searches
+
+pub returns-in-GrainPcre-clause-searches : goal.returns-in-GrainPcre-clause-searches
+returns-in-GrainPcre-clause-searches t c = K.grain_leaf c.args.ready.now c.in-GrainPcre.pattern _ _ c.in-GrainPcre.is c.holds-in-GrainPcre.ensures.searches
+
+pub returns-in-PillarPcre-clause-searches : goal.returns-in-PillarPcre-clause-searches
+returns-in-PillarPcre-clause-searches t c = K.pillar_leaf c.args.ready.now c.in-PillarPcre.pattern _ _ c.in-PillarPcre.is c.holds-in-PillarPcre.ensures.searches
+
+pub returns-in_ok-holds-in-Not-clause-searches : goal.returns-in_ok-holds-in-Not-clause-searches
+returns-in_ok-holds-in-Not-clause-searches t c = K.not_tree c.args.ready.now c.in-Not.one c.get.result.now _ _ c.in-Not.is c.get.ensures c.holds-in-Not.ensures.searches
+
+pub returns-in_err-holds-in-Not-clause-searches : goal.returns-in_err-holds-in-Not-clause-searches
+returns-in_err-holds-in-Not-clause-searches t c = K.not_tree c.args.ready.now c.in-Not.one c.get.result.now _ _ c.in-Not.is c.get.ensures c.holds-in-Not.ensures.searches
+
+pub returns-in_err-holds-in-And-clause-searches : goal.returns-in_err-holds-in-And-clause-searches
+returns-in_err-holds-in-And-clause-searches t c = K.left_alone c.args.ready.now c.in-And.left c.in-And.right c.get-in-And.result.now _ _ (inl c.in-And.is) c.get-in-And.ensures c.holds-in-And.ensures.searches
+
+pub returns-then-not-branch-clause-searches : goal.returns-then-not-branch-clause-searches
+returns-then-not-branch-clause-searches t c = K.left_alone c.args.ready.now c.in-And.left c.in-And.right c.get-in-And.result.now _ _ (inl c.in-And.is) c.get-in-And.ensures c.holds-in-And.ensures.searches
+
+pub returns-else-not-branch-clause-searches : goal.returns-else-not-branch-clause-searches
+returns-else-not-branch-clause-searches t c =
+    K.left_and_right c.args.ready.now c.in-And.left c.in-And.right c.get-in-And.result.now c.get-in-And-2.result.now _ _ _ (inl c.in-And.is)
+    c.get-in-And.ensures c.get-in-And-2.ensures c.holds-in-And.ensures.searches c.holds-in-And-2.ensures.searches
+
+pub returns-in_err-holds-in-Or-clause-searches : goal.returns-in_err-holds-in-Or-clause-searches
+returns-in_err-holds-in-Or-clause-searches t c = K.left_alone c.args.ready.now c.in-Or.left c.in-Or.right c.get-in-Or.result.now _ _ (inr c.in-Or.is) c.get-in-Or.ensures c.holds-in-Or.ensures.searches
+
+pub returns-then-branch-clause-searches : goal.returns-then-branch-clause-searches
+returns-then-branch-clause-searches t c = K.left_alone c.args.ready.now c.in-Or.left c.in-Or.right c.get-in-Or.result.now _ _ (inr c.in-Or.is) c.get-in-Or.ensures c.holds-in-Or.ensures.searches
+
+pub returns-else-branch-clause-searches : goal.returns-else-branch-clause-searches
+returns-else-branch-clause-searches t c =
+    K.left_and_right c.args.ready.now c.in-Or.left c.in-Or.right c.get-in-Or.result.now c.get-in-Or-2.result.now _ _ _ (inr c.in-Or.is)
+    c.get-in-Or.ensures c.get-in-Or-2.ensures c.holds-in-Or.ensures.searches c.holds-in-Or-2.ensures.searches
 
 pub returns-in-IdPcre-clause-memory : goal.returns-in-IdPcre-clause-memory
 returns-in-IdPcre-clause-memory t c = λ h. absurd (R.more_needed c.args.ready.now (inl (c.in-IdPcre.pattern, c.in-IdPcre.is)) h)
