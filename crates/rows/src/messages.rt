@@ -1,4 +1,6 @@
 //! Messages.
+ghost use Rattle.salt_wire.specs.Limits.{Within};
+
 use crate::digits::{bytes_of, digits_of};
 use crate::trees::tree_text;
 use salt_value::{Fields, MinionId, Value};
@@ -20,7 +22,10 @@ fn decoded(alloc: Global, body: &[u8]) -> Result<String, AllocError> {
     }
 }
 
-fn told_again(alloc: Global, message: &Message, body: &[u8]) -> Result<String, AllocError> {
+// What a message that was decoded tells, and its body again.
+fn told_again(alloc: Global, message: &Message, body: &[u8]) -> Result<String, AllocError>
+    requires { Within message.now }
+{
     let text = told(alloc, message)?;
     let mut out = Vec::new(alloc);
     encode(message, &mut out)?;
