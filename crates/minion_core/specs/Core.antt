@@ -1,0 +1,26 @@
+-- The state of a minion: how often it started, how many jobs it has, what it holds, and its log.
+use Rattle.std.specs.Prelude.{ℕ, ◌≡◌, ◌<◌, ◌+◌, ◌^◌, List, [], ◌∷◌, ◌++◌, length, Option}
+use Rattle.exec_functions.specs.declared.holdings.Holdings.{Holdings}
+use Rattle.salt_wire.specs.declared.message.Entry.{Entry}
+use Rattle.salt_wire.specs.declared.message.Entry.TheVariants.{Start}
+use Rattle.salt_wire.specs.declared.deed.Changed.{Changed}
+use Rattle.salt_wire.specs.declared.deed.Deed.{Deed}
+use Rattle.salt_wire.specs.declared.deed.Deed.TheVariants.{Publish, Up, Fire, React, Intake, Boot, Done}
+use Rattle.minion_core.specs.Flat.{held_with}
+
+-- how often a minion started, how many jobs it has, what it holds, and its log
+pub record CoreState : Type 0 where
+  pub boots : ℕ
+  pub jobs : ℕ
+  pub held : Holdings
+  pub log : List Entry
+
+-- the state after a record
+abbrev pub after : Deed → CoreState → CoreState
+after (Publish job) s = s
+after (Up minion entry) s = s
+after (Fire event) s = s
+after (React items) s = s
+after (Intake job) s = s
+after Boot s = record { boots = s.boots + 1; jobs = s.jobs; held = s.held; log = s.log ++ Start (s.boots + 1) ∷ [] }
+after (Done seq changed entries) s = record { boots = s.boots; jobs = s.jobs + 1; held = held_with changed s.held; log = s.log ++ entries }
