@@ -20,8 +20,9 @@ pub fn copy(alloc: Global, value: &Value) -> Result<Value, AllocError>
     }
 }
 
+/// An equal list of values in memory of its own.
 #[cycle(copy)]
-fn copy_items(alloc: Global, items: &[Value]) -> Result<Items, AllocError>
+pub fn copy_items(alloc: Global, items: &[Value]) -> Result<Items, AllocError>
     ensures { IfOk result (λ copies. copies ≡ items.now) }
 {
     let mut copies = Items::new(alloc);
@@ -42,4 +43,11 @@ fn copy_pairs(alloc: Global, pairs: &[(Text, Value)]) -> Result<Fields, AllocErr
         copies.push(name, copy(alloc, value)?)?;
     }
     Ok(copies)
+}
+
+/// Equal pairs in memory of their own.
+pub fn copy_fields(alloc: Global, fields: &Fields) -> Result<Fields, AllocError>
+    ensures { IfOk result (λ copy. copy ≡ fields.now) }
+{
+    copy_pairs(alloc, fields.as_slice())
 }
