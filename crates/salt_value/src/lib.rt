@@ -3,6 +3,7 @@
 #![tactic(auto)]
 
 mod bytes;
+mod changes;
 mod copy;
 mod event;
 mod fault;
@@ -14,6 +15,7 @@ mod laws;
 mod limits;
 mod outcome;
 mod reading;
+mod same;
 mod text;
 mod value;
 mod word;
