@@ -7,7 +7,7 @@ ghost use Rattle.minion_core.specs.Flat as flat;
 
 use crate::running::done;
 use exec_functions::Holdings;
-use salt_value::{MinionId, copy_fields};
+use salt_value::MinionId;
 use salt_wire::{Changed, Deed, Entry, Job};
 use std::alloc::{AllocError, Global};
 use std::marker::Model;
@@ -153,9 +153,9 @@ fn copy_changed(alloc: Global, changed: &Option<Changed>) -> Result<Option<Chang
     match changed {
         None => Ok(None),
         Some(new) => Ok(Some(Changed {
-            grains: copy_fields(alloc, &new.grains)?,
-            store: copy_fields(alloc, &new.store)?,
-            mine: copy_fields(alloc, &new.mine)?,
+            grains: new.grains.copy(alloc)?,
+            store: new.store.copy(alloc)?,
+            mine: new.mine.copy(alloc)?,
         })),
     }
 }

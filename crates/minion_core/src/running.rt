@@ -9,7 +9,7 @@ ghost use Rattle.salt_wire.specs.declared.deed.Deed.TheVariants.{Done};
 
 use crate::matching::does_hold;
 use exec_functions::{Change, Holdings, Note, Ran, run};
-use salt_value::{Fields, MinionId, copy_fields};
+use salt_value::{Fields, MinionId};
 use salt_wire::{Changed, Deed, Entries, Entry, Job};
 use std::alloc::{AllocError, Global};
 
@@ -21,17 +21,17 @@ fn changed_of(alloc: Global, change: Change, held: &Holdings) -> Result<Option<C
         Change::Nothing => None,
         Change::Grains(grains) => Some(Changed {
             grains,
-            store: copy_fields(alloc, &held.store)?,
-            mine: copy_fields(alloc, &held.mine)?,
+            store: held.store.copy(alloc)?,
+            mine: held.mine.copy(alloc)?,
         }),
         Change::Store(store) => Some(Changed {
-            grains: copy_fields(alloc, &held.grains)?,
+            grains: held.grains.copy(alloc)?,
             store,
-            mine: copy_fields(alloc, &held.mine)?,
+            mine: held.mine.copy(alloc)?,
         }),
         Change::Mine(mine) => Some(Changed {
-            grains: copy_fields(alloc, &held.grains)?,
-            store: copy_fields(alloc, &held.store)?,
+            grains: held.grains.copy(alloc)?,
+            store: held.store.copy(alloc)?,
             mine,
         }),
     })
@@ -73,9 +73,9 @@ fn entry_of(
         }),
         Note::Mine => Ok(Entry::Mine {
             seq,
-            mine: copy_fields(alloc, mine_after(changed, held))?,
-            grains: copy_fields(alloc, grains_after(changed, held))?,
-            pillar: copy_fields(alloc, &held.pillar)?,
+            mine: mine_after(changed, held).copy(alloc)?,
+            grains: grains_after(changed, held).copy(alloc)?,
+            pillar: held.pillar.copy(alloc)?,
         }),
     }
 }

@@ -44,10 +44,3 @@ fn copy_pairs(alloc: Global, pairs: &[(Text, Value)]) -> Result<Fields, AllocErr
     }
     Ok(copies)
 }
-
-/// Equal pairs in memory of their own.
-pub fn copy_fields(alloc: Global, fields: &Fields) -> Result<Fields, AllocError>
-    ensures { IfOk result (λ copy. copy ≡ fields.now) }
-{
-    copy_pairs(alloc, fields.as_slice())
-}

@@ -3,7 +3,7 @@ ghost use Rattle.std.specs.Prelude.{◌≡◌, IfOk};
 ghost use Rattle.salt_wire.specs.declared.message.Entry.TheVariants.{Return, Fired, Mine};
 
 use crate::message::{Entry, Job};
-use salt_value::{Event, Fields, Outcome, copy_fields, copy_items};
+use salt_value::{Event, Fields, Outcome, copy_items};
 use std::alloc::{AllocError, Global};
 
 impl Job {
@@ -50,9 +50,9 @@ fn copy_mine(
 {
     Ok(Entry::Mine {
         seq,
-        mine: copy_fields(alloc, mine)?,
-        grains: copy_fields(alloc, grains)?,
-        pillar: copy_fields(alloc, pillar)?,
+        mine: mine.copy(alloc)?,
+        grains: grains.copy(alloc)?,
+        pillar: pillar.copy(alloc)?,
     })
 }
 

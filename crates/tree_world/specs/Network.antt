@@ -49,10 +49,14 @@ with_node w i node = record w { nodes = slice_set w.nodes i node }
 abbrev pub with_packets : Network → List Packet → Network
 with_packets w new = record w { packets = w.packets ++ new }
 
+-- the job of a publication: `test.ping` without arguments
+abbrev pub ping_of : ℕ → List ℕ → Job
+ping_of jid tgt = job_of jid tgt (codes "test.ping") []
+
 -- a publication adds one record at the top, or nothing where it is refused
 abbrev pub published : List ℕ → Result ℕ PublishFault → Network → Network
 published tgt (Err cause) w = w
-published tgt (Ok jid) w = with_node w 0 (with_record (r.Publish (job_of jid tgt (codes "test.ping") [])) (node_at w.nodes 0))
+published tgt (Ok jid) w = with_node w 0 (with_record (r.Publish (ping_of jid tgt)) (node_at w.nodes 0))
 
 -- a message on its way between two places
 abbrev pub packet : ℕ → ℕ → Message → Packet
