@@ -10,8 +10,7 @@ use Rattle.salt_wire.specs.declared.message.Entry.{Entry}
 use Rattle.salt_wire.specs.declared.message.Entry.TheVariants.{Return, Fired, Start, Mine}
 use Rattle.salt_wire.specs.declared.deed.Deed.{Deed}
 use Rattle.minion_core.specs.Flat.{done, held_after, entries_in, flat_records, flat_up, flat_held, return_of}
-use Rattle.minion_core.proofs.Own.{IsOwn, IsDone, done_is, entries_are, return_none}
-use Rattle.laws_lab.proofs.Chains.{return_late}
+use Rattle.minion_core.proofs.Own.{IsOwn, IsDone, done_is, entries_are, return_none, return_late}
 
 -- a return stands in the first of two lists, where it does not stand in the second
 return_front : (k : ℕ) (xs ys : List Entry) → return_of k ys ≡ None → return_of k (xs ++ ys) ≡ return_of k xs

@@ -16,9 +16,7 @@ use Rattle.salt_wire.specs.declared.message.Entry.TheVariants.{Return, Fired, St
 use Rattle.salt_wire.specs.declared.deed.Changed.{Changed}
 use Rattle.salt_wire.specs.declared.deed.Deed.{Deed}
 use Rattle.salt_wire.specs.declared.deed.Deed.TheVariants.{Done}
-use Rattle.minion_core.specs.Flat.{does_hold, entry_of, entries_by, done_by, done, entries_in, acts, is_start, return_of}
-use Rattle.laws_lab.specs.Records.{count_in, is_boot}
-use Rattle.laws_lab.specs.Invariant.{Names}
+use Rattle.minion_core.specs.Flat.{does_hold, entry_of, entries_by, done_by, done, held_after, entries_in, flat_up, acts, is_start, return_of}
 
 -- an entry of job number seq that is no start
 abbrev pub IsOwn : ℕ → Entry → Type 0
@@ -68,13 +66,6 @@ done_is seq job id held = made seq held (does_hold job id held) (run job.fun job
 
 -- ---- what follows from that
 
-named_own : (seq c : ℕ) (es : List Entry) → seq < c → AllByRecursion (IsOwn seq) es → AllByRecursion (Names c) es
-named_own seq c [] l h = tt
-named_own seq c (Return n o ∷ es) l h = (rw h.0 (lt-ltb seq c l), named_own seq c es l h.1)
-named_own seq c (Fired e ∷ es) l h = (refl, named_own seq c es l h.1)
-named_own seq c (Start b ∷ es) l h = absurd h.0
-named_own seq c (Mine n m g p ∷ es) l h = (rw h.0 (lt-ltb seq c l), named_own seq c es l h.1)
-
 acts_own : (seq : ℕ) (es : List Entry) → AllByRecursion (IsOwn seq) es → acts es ≡ es
 acts_own seq [] h = refl
 acts_own seq (Return n o ∷ es) h = ap (λ l. Return n o ∷ l) (acts_own seq es h.1)
@@ -113,15 +104,6 @@ module _ (seq : ℕ) (d : Deed) (h : IsDone seq d) where
   pub entries_are : entries_in d ≡ h.entries
   entries_are = ap entries_in h.is
 
-  pub count_done : count_in d ≡ 1
-  count_done = ap count_in h.is
-
-  pub no_boot : is_boot d ≡ false
-  no_boot = ap is_boot h.is
-
-  pub named_done : (c : ℕ) → seq < c → AllByRecursion (Names c) (entries_in d)
-  named_done c l = rw entries_are (named_own seq c h.entries l h.own)
-
   pub acts_done : acts (entries_in d) ≡ entries_in d
   acts_done = rw entries_are (acts_own seq h.entries h.own)
 
@@ -130,3 +112,10 @@ module _ (seq : ℕ) (d : Deed) (h : IsDone seq d) where
 
   pub once_done : (rest : List Entry) → NoTwice rest → return_of seq rest ≡ None → NoTwice (entries_in d ++ rest)
   once_done rest r e = rw entries_are (once_own seq h.entries rest h.own h.once r e)
+
+-- later jobs have no return of an earlier number
+pub return_late : (k seq : ℕ) (id : List ℕ) (h : Holdings) (js : List Job) → k < seq → return_of k (flat_up seq id h js) ≡ None
+return_late k seq id h [] l = refl
+return_late k seq id h (j ∷ js) l =
+    let d : Deed = done seq j id h in
+    return_none k (entries_in d) (flat_up (seq + 1) id (held_after h d) js) (return_done seq d (done_is seq j id h) k l) ∙ return_late k (seq + 1) id (held_after h d) js (omega arith)

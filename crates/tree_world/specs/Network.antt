@@ -1,13 +1,14 @@
 -- The network machine: the nodes of a fleet, and the list of all packets ever sent. Each turn is one step.
-use Rattle.std.specs.Prelude.{ℕ, min, false, List, [], ◌∷◌, ◌++◌, length, map, take, slice_get, slice_set, Option, None, Some, Result, Ok, Err, nat_lt, if◌then◌else◌}
+use Rattle.std.specs.Prelude.{ℕ, codes, min, false, List, [], ◌∷◌, ◌++◌, length, map, take, slice_get, slice_set, Option, None, Some, Result, Ok, Err, nat_lt, if◌then◌else◌}
 use Rattle.std.specs.List.{slice_index_or}
 use Rattle.fleet_config.specs.Fleet.{FleetConfig}
-use Rattle.node_core.specs.declared.job.Job.{Job}
-use Rattle.node_core.specs.declared.record.Record.TheVariants as r
-use Rattle.node_core.specs.declared.message.Message.{Message}
+use Rattle.salt_wire.specs.declared.message.Job.{Job}
+use Rattle.salt_wire.specs.declared.deed.Deed.TheVariants as r
+use Rattle.salt_wire.specs.declared.message.Message.{Message}
 use Rattle.node_core.specs.declared.faults.PublishFault.{PublishFault}
 use Rattle.node_core.specs.Records.{jobs}
-use Rattle.node_core.specs.Node.{NodeState, Answer, Taken, first_node, with_record, taken, pending, publication}
+use Rattle.minion_core.specs.Flat.{nothing_held}
+use Rattle.node_core.specs.Node.{NodeState, Answer, Taken, job_of, first_node, with_record, taken, pending, publication}
 use Rattle.node_core.specs.Node.Answer.{IsStray, Silent, Reply}
 use Rattle.tree_world.specs.Packets.{Packet}
 use Rattle.fleet_turns.specs.declared.turn.Turn.{Turn}
@@ -26,7 +27,7 @@ pub record System : Type 0 where
 
 -- the node at a place, and a master without records past the end
 abbrev pub node_at : List NodeState → ℕ → NodeState
-node_at nodes i = slice_index_or nodes i (record { minion = false; records = []; known_jobs = []; known_ups = [] })
+node_at nodes i = slice_index_or nodes i (record { minion = false; records = []; held = nothing_held; known_jobs = []; known_ups = [] })
 
 -- each minion has booted, and nothing was sent
 abbrev pub start : FleetConfig → Network
@@ -48,10 +49,14 @@ with_node w i node = record w { nodes = slice_set w.nodes i node }
 abbrev pub with_packets : Network → List Packet → Network
 with_packets w new = record w { packets = w.packets ++ new }
 
+-- the job of a publication: `test.ping` without arguments
+abbrev pub ping_of : ℕ → List ℕ → Job
+ping_of jid tgt = job_of jid tgt (codes "test.ping") []
+
 -- a publication adds one record at the top, or nothing where it is refused
 abbrev pub published : List ℕ → Result ℕ PublishFault → Network → Network
 published tgt (Err cause) w = w
-published tgt (Ok jid) w = with_node w 0 (with_record (r.Publish (record { jid = jid; tgt = tgt })) (node_at w.nodes 0))
+published tgt (Ok jid) w = with_node w 0 (with_record (r.Publish (ping_of jid tgt)) (node_at w.nodes 0))
 
 -- a message on its way between two places
 abbrev pub packet : ℕ → ℕ → Message → Packet

@@ -1,11 +1,13 @@
 -- The printed text, by cases on the turn and the network.
-use Rattle.std.specs.Prelude.{ℕ, ◌==◌, Bool, List, [], ◌∷◌, ◌++◌, length, flat_map, position, slice_get, Option, None, Some, Result, Ok, Err, codes, decimal, if◌then◌else◌}
+use Rattle.std.specs.Prelude.{ℕ, ◌==◌, List, [], ◌∷◌, ◌++◌, length, flat_map, position, slice_get, Option, None, Some, option_map, unwrap_or, Result, Ok, Err, codes, decimal}
 use Rattle.hex.specs.Hex.{encode_lower}
 use Rattle.salt_value.specs.Jid.{jid_text}
+use Rattle.value_json.specs.Texts.{json_text}
+use Rattle.salt_wire.specs.Spelling.{body}
 use Rattle.fleet_config.specs.Fleet.{FleetConfig}
 use Rattle.fleet_config.specs.Tree.{id_of}
-use Rattle.node_core.specs.declared.job.Job.{Job}
-use Rattle.node_core.specs.declared.job.Row.{Row}
+use Rattle.salt_wire.specs.declared.message.Job.{Job}
+use Rattle.salt_value.specs.declared.outcome.Row.{Row}
 use Rattle.node_core.specs.declared.faults.PublishFault.{PublishFault}
 use Rattle.node_core.specs.declared.faults.PublishFault.TheVariants.{JobsFull, JidEnd, NoMemory}
 use Rattle.node_core.specs.Node.{publication}
@@ -13,7 +15,7 @@ use Rattle.fleet_turns.specs.declared.turn.Turn.{Turn}
 use Rattle.fleet_turns.specs.declared.turn.Turn.TheVariants.{Publish, Send, Deliver, Report}
 use Rattle.fleet_turns.specs.declared.turn.Turn.TheVariants as t
 use Rattle.tree_world.specs.Network.{Network, node_at, top_jobs, after, start}
-use Rattle.tree_world.specs.Packets.{Packet, body_of}
+use Rattle.tree_world.specs.Packets.{Packet}
 use Rattle.tree_world.specs.Report.{report}
 
 -- a line with its line feed
@@ -31,21 +33,17 @@ abbrev pub publish_text : Result ℕ PublishFault → List ℕ
 publish_text (Ok jid) = line (codes "publish " ++ jid_text jid)
 publish_text (Err cause) = line (codes "refused publish " ++ refusal_text cause)
 
--- a flag as JSON
-abbrev pub flag_text : Bool → List ℕ
-flag_text flag = if flag then codes "true" else codes "false"
-
 -- a minion's id, its retcode, and its value as JSON
 abbrev pub row_text : Row → List ℕ
-row_text row = line (row.id ++ codes " " ++ decimal row.outcome.retcode ++ codes " " ++ flag_text row.outcome.value)
+row_text row = line (row.id ++ codes " " ++ decimal row.outcome.retcode ++ codes " " ++ json_text row.outcome.value)
 
--- the line above the rows of a report, with their count
-abbrev pub head_text : ℕ → ℕ → List ℕ
-head_text jid count = line (codes "report " ++ jid_text jid ++ codes " test.ping " ++ decimal count)
+-- the line above the rows of a report, with its job's function and their count
+abbrev pub head_text : ℕ → List ℕ → ℕ → List ℕ
+head_text jid fun count = line (codes "report " ++ jid_text jid ++ codes " " ++ fun ++ codes " " ++ decimal count)
 
 -- the lines of a report
-abbrev pub rows_text : ℕ → List Row → List ℕ
-rows_text jid rows = head_text jid (length rows) ++ flat_map row_text rows
+abbrev pub rows_text : ℕ → List ℕ → List Row → List ℕ
+rows_text jid fun rows = head_text jid fun (length rows) ++ flat_map row_text rows
 
 -- the line of a job that the top does not have
 abbrev pub unknown_text : ℕ → List ℕ
@@ -55,10 +53,14 @@ unknown_text jid = line (codes "unknown " ++ jid_text jid)
 abbrev pub number_of : ℕ → List Job → Option ℕ
 number_of jid jobs = position (λ job. job.jid == jid) jobs
 
+-- the function of a job, and none past the end of the list
+abbrev pub function_at : List Job → ℕ → List ℕ
+function_at jobs seq = unwrap_or (option_map (λ job. job.fun) (slice_get jobs seq)) []
+
 -- the lines of the job with this number, and one line where there is none
 abbrev pub report_text : FleetConfig → Network → ℕ → Option ℕ → List ℕ
 report_text f w jid None = unknown_text jid
-report_text f w jid (Some seq) = rows_text jid (report f.tree (node_at w.nodes 0).records seq)
+report_text f w jid (Some seq) = rows_text jid (function_at (top_jobs w) seq) (report f.tree (node_at w.nodes 0).records seq)
 
 -- the line of a packet that is not there
 abbrev pub missing_text : ℕ → List ℕ
@@ -68,7 +70,7 @@ missing_text i = line (codes "packet " ++ decimal i ++ codes " none")
 abbrev pub packet_text : FleetConfig → ℕ → Option Packet → List ℕ
 packet_text f i None = missing_text i
 packet_text f i (Some p) =
-    line (codes "packet " ++ decimal i ++ codes " " ++ id_of f.tree p.from ++ codes " " ++ id_of f.tree p.to ++ codes " " ++ encode_lower (body_of p.message))
+    line (codes "packet " ++ decimal i ++ codes " " ++ id_of f.tree p.from ++ codes " " ++ id_of f.tree p.to ++ codes " " ++ encode_lower (body p.message))
 
 -- what a turn prints
 abbrev pub printed : FleetConfig → Turn → Network → List ℕ
