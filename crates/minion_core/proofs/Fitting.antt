@@ -60,4 +60,4 @@ few_entries seq held ran h =
     omega arith
 
 pub done_few : (seq : ℕ) (fun : List ℕ) (args : List Value) (held : Holdings) → length (entries_in (done_by seq held (run fun args held))) ≤ 2
-done_few seq fun args held = few_entries seq _ (run fun args held) (few_notes fun args held)
+done_few seq fun args held = few_entries seq (with_change (run fun args held).change held) (run fun args held) (few_notes fun args held)
