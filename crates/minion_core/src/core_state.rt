@@ -4,10 +4,11 @@ ghost use Rattle.salt_wire.specs.Limits.{JobFits, EntryFits};
 ghost use Rattle.salt_wire.specs.declared.message.Entry.{Entry as Told};
 ghost use Rattle.salt_wire.specs.declared.deed.Deed.TheVariants.{Boot};
 ghost use Rattle.minion_core.specs.Flat as flat;
+ghost use Rattle.exec_functions.specs.Limits.{AreWithin};
 
 use crate::running::done;
 use exec_functions::Holdings;
-use salt_value::MinionId;
+use salt_value::{Fields, MinionId};
 use salt_wire::{Changed, Deed, Entry, Job};
 use std::alloc::{AllocError, Global};
 use std::marker::Model;
@@ -40,7 +41,6 @@ impl Model for MinionCore {
 impl MinionCore {
     ghost use Rattle.minion_core.specs.Core.{CoreState, after};
     ghost use Rattle.minion_core.specs.Limits.{DeedFits, StateFits, HasRoom, ChangedFits};
-    ghost use Rattle.exec_functions.specs.Limits.{AreWithin};
 
     /// A minion that holds this and has no start, job or entry.
     pub fn new(alloc: Global, held: Holdings) -> MinionCore
@@ -143,6 +143,19 @@ impl MinionCore {
         ensures fits { All EntryFits self.now.log }
     {
         self.log.as_slice()
+    }
+}
+
+/// What a minion holds that was told nothing. It takes no memory.
+pub fn nothing_held(alloc: Global) -> Holdings
+    ensures value { result ≡ flat.nothing_held }
+    ensures fits { AreWithin result }
+{
+    Holdings {
+        grains: Fields::new(alloc),
+        pillar: Fields::new(alloc),
+        store: Fields::new(alloc),
+        mine: Fields::new(alloc),
     }
 }
 
