@@ -1,6 +1,6 @@
 -- The flat fleet job by job, and each flat minion by itself.
 use Rattle.std.proofs.Common.{◌≡◌, ℕ, zero, suc, ◌+◌, ◌<◌, ◌∙◌, sym, ap, refl, Bool, true, false, List, [], ◌∷◌, ◌++◌, length, take, drop, get_or, set, drop-cons, map, arith, add-one}
-use Rattle.std.specs.Prelude.{Option, None, Some, slice_get, filter_map, ◌==◌, if◌then◌else◌}
+use Rattle.std.specs.Prelude.{Option, None, Some, slice_get, if◌then◌else◌}
 use Rattle.std.specs.List.{cons_option}
 use Rattle.std.proofs.lemmas.List.Elements.{filter_map-append}
 use Rattle.std.proofs.lemmas.Bool.{eq-eqb}
@@ -22,8 +22,7 @@ use Rattle.minion_core.specs.Flat.{does_hold, entry_of, done_by, done, held_afte
 use Rattle.minion_core.proofs.Changes.{changed_is}
 use Rattle.minion_core.proofs.FlatSteps.{step_from, flat_push}
 use Rattle.flat_fleet.specs.declared.report.FlatMinion.{FlatMinion}
-use Rattle.flat_fleet.specs.declared.report.FlatReport.{FlatReport}
-use Rattle.flat_fleet.specs.Reports.{row_of, job_rows, report_of, reports_to, outcome_of, minion_after, rows_after}
+use Rattle.flat_fleet.specs.Reports.{row_of, job_rows, reports_to, outcome_of, minion_after, rows_after}
 
 -- ---- one step
 
@@ -63,7 +62,7 @@ present_more : (xs : List Job) (job : Job) (m : FlatMinion) → minion_after job
 present_more xs job m =
     let h : Holdings = flat_held 0 m.id m.held xs in
     let next : flat_held 0 m.id m.held (xs ++ job ∷ []) ≡ held_after h (done (0 + length xs) job m.id h) =
-        ap (held_by m.held) (flat_push 0 m.id m.held xs job) ∙ held_by_push m.held (flat_records 0 m.id m.held xs) (done (0 + length xs) job m.id h) in
+    ap (held_by m.held) (flat_push 0 m.id m.held xs job) ∙ held_by_push m.held (flat_records 0 m.id m.held xs) (done (0 + length xs) job m.id h) in
     ap (λ (x : Holdings). record m { held = x }) (sym (next ∙ held_is (0 + length xs) job (present xs m)))
 
 pub all_more : (xs : List Job) (job : Job) (ms : List FlatMinion) → map (minion_after job) (map (present xs) ms) ≡ map (present (xs ++ job ∷ [])) ms
@@ -128,7 +127,7 @@ pub rows_more : (job : Job) (xs : List FlatMinion) (i : ℕ) (m : FlatMinion) (b
     → before ≡ rows_after job (take i xs) → outcome ≡ outcome_of job m → after ≡ before ++ cons_option (row_of m.id outcome) [] → after ≡ rows_after job (take (i + 1) xs)
 rows_more job xs i m before after outcome lt is b o e =
     let grown : rows_after job (take (i + 1) xs) ≡ rows_after job (take i xs) ++ rows_after job (get_or xs i m ∷ []) =
-        ap (rows_after job) (take_more xs i m lt) ∙ filter_map-append (λ (x : FlatMinion). row_of x.id (outcome_of job x)) (take i xs) (get_or xs i m ∷ []) in
+    ap (rows_after job) (take_more xs i m lt) ∙ filter_map-append (λ (x : FlatMinion). row_of x.id (outcome_of job x)) (take i xs) (get_or xs i m ∷ []) in
     let last : rows_after job (get_or xs i m ∷ []) ≡ cons_option (row_of m.id outcome) [] = ap (λ (x : FlatMinion). rows_after job (x ∷ [])) (sym is) ∙ ap (λ (r : Option Outcome). cons_option (row_of m.id r) []) (sym o) in
     e ∙ ap (λ l. l ++ cons_option (row_of m.id outcome) []) b ∙ sym (grown ∙ ap (λ l. rows_after job (take i xs) ++ l) last)
 

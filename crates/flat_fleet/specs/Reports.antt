@@ -1,11 +1,10 @@
 -- The reports of the flat fleet.
-use Rattle.std.specs.Prelude.{ℕ, zero, suc, List, [], ◌∷◌, ◌++◌, map, filter_map, Option, None, Some, option_map, slice_get, if◌then◌else◌}
+use Rattle.std.specs.Prelude.{ℕ, zero, suc, List, [], ◌∷◌, ◌++◌, filter_map, Option, None, Some, option_map, slice_get, if◌then◌else◌}
 use Rattle.salt_value.specs.declared.outcome.Outcome.{Outcome}
-use Rattle.exec_functions.specs.declared.holdings.Holdings.{Holdings}
 use Rattle.exec_functions.specs.Exec.{run, with_change}
 use Rattle.salt_wire.specs.declared.message.Job.{Job}
 use Rattle.salt_value.specs.declared.outcome.Row.{Row}
-use Rattle.minion_core.specs.Flat.{does_hold, flat_up, flat_held, return_of}
+use Rattle.minion_core.specs.Flat.{does_hold, flat_up, return_of}
 use Rattle.flat_fleet.specs.declared.report.FlatMinion.{FlatMinion}
 use Rattle.flat_fleet.specs.declared.report.FlatReport.{FlatReport}
 

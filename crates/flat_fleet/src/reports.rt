@@ -88,7 +88,11 @@ fn copy_fleet(alloc: Global, fleet: &[FlatMinion]) -> Result<Vec<FlatMinion>, Al
 
 // All jobs in order on these minions.
 #[tactic(auto, using(crate::proofs::Present::at_first))]
-fn all_jobs(alloc: Global, jobs: &[Job], minions: &mut [FlatMinion]) -> Result<Vec<FlatReport>, AllocError>
+fn all_jobs(
+    alloc: Global,
+    jobs: &[Job],
+    minions: &mut [FlatMinion],
+) -> Result<Vec<FlatReport>, AllocError>
     ensures { IfOk result (λ reports. reports.items ≡ spec.reports_to (length jobs.now) minions.old jobs.now) }
 {
     let mut reports = Vec::new(alloc);
@@ -106,7 +110,11 @@ fn all_jobs(alloc: Global, jobs: &[Job], minions: &mut [FlatMinion]) -> Result<V
 
 /// The report of each job, in order: job by job, each minion that the target holds for runs it on what it holds then. There is no tree,
 /// no message and no disk here: every report of the program is measured by this one.
-pub fn flat_reports(alloc: Global, fleet: &[FlatMinion], jobs: &[Job]) -> Result<Vec<FlatReport>, AllocError>
+pub fn flat_reports(
+    alloc: Global,
+    fleet: &[FlatMinion],
+    jobs: &[Job],
+) -> Result<Vec<FlatReport>, AllocError>
     ensures { IfOk result (λ reports. reports.items ≡ spec.reports_to (length jobs.now) fleet.now jobs.now) }
 {
     let mut minions = copy_fleet(alloc, fleet)?;
