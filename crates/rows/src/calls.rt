@@ -1,6 +1,6 @@
 //! Which function a row calls.
 use crate::spread::{cut, spread};
-use crate::{globs, ids, messages, replays, scripts, targets, values};
+use crate::{globs, ids, json, messages, replays, scripts, targets, values};
 use std::alloc::{AllocError, Global};
 use target_tree::Groups;
 
@@ -28,6 +28,7 @@ fn answer_to(
         "target" => targets::target(alloc, groups, rest),
         "copy" => targets::copy(alloc, groups, rest),
         "value" => values::value(alloc, rest),
+        "json" => json::json(alloc, rest),
         "message" => messages::message(alloc, rest),
         "script" => scripts::script(alloc, rest),
         "replay" => replays::replay(alloc, rest),

@@ -6,6 +6,7 @@ mod calls;
 mod digits;
 mod globs;
 mod ids;
+mod json;
 mod messages;
 mod replays;
 mod scripts;
