@@ -1,5 +1,5 @@
 -- What a function makes is within the limits of a message.
-use Rattle.std.proofs.Common.{◌≡◌, ◌≤◌, ◌<◌, ◌==◌, ℕ, ℤ, ◌+ℤ◌, Bool, true, false, ◌&&◌, List, [], ◌∷◌, ◌++◌, length, codes, refl, sym, ap, subst, ◌∙◌, arith, length-append}
+use Rattle.std.proofs.Common.{◌≡◌, ◌≤◌, ◌<◌, ℕ, ℤ, ◌+ℤ◌, Bool, true, false, ◌&&◌, List, [], ◌∷◌, ◌++◌, length, codes, refl, sym, subst, arith, length-append}
 use Rattle.std.specs.Prelude.{Option, None, Some, All, option_map, nat_le, nat_lt, Result, Ok, Err, IfOk, if◌then◌else◌}
 use Rattle.std.specs.List.{list_all}
 use Rattle.std.specs.Str.{IsAscii, is_utf8}
@@ -13,7 +13,6 @@ use Rattle.salt_value.specs.Word.{IsWord, is_word_byte}
 use Rattle.salt_value.specs.WellFormed.{ValueFits, is_int}
 use Rattle.salt_value.specs.Keys.{under}
 use Rattle.salt_value.proofs.WriteLemmas.{both_true}
-use Rattle.exec_functions.specs.declared.function.Query.{Query}
 use Rattle.exec_functions.specs.declared.function.Function.{Function}
 use Rattle.exec_functions.specs.declared.function.Function.TheVariants.{Asks, GrainsSetval, DataUpdate, DataPop, DataCas, DataIncr, MineSend, MineDelete, MineFlush, EventSend}
 use Rattle.exec_functions.specs.declared.holdings.Holdings.{Holdings}

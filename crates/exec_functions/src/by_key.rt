@@ -16,6 +16,7 @@ use crate::results::{
 use salt_value::{Event, Fields, Value, Word, WordFault};
 use std::alloc::{AllocError, Global};
 
+// Sets the grain, and answers a map with that pair.
 fn grains_setval(
     alloc: Global,
     key: &str,
@@ -37,6 +38,7 @@ fn grains_setval(
     }
 }
 
+// Whether a grain may have this key: not empty, and without a colon.
 fn is_grain_key(key: &[u8]) -> bool
     ensures { result ≡ spec.is_grain_key key.now }
 {
@@ -44,11 +46,12 @@ fn is_grain_key(key: &[u8]) -> bool
 }
 
 fn has_no_colon(key: &[u8]) -> bool
-    ensures { result ≡ list_all (λ b. not (b == 58)) key.now }
+    ensures { result ≡ list_all (λ b. not (b == 0x3A)) key.now }
 {
     key.iter().all(|b| *b != b':')
 }
 
+// Stores the value.
 fn data_update(alloc: Global, key: &str, rest: &[Value], held: &Holdings) -> Result<Ran, AllocError>
     ensures { IfOk result (λ ran. ran ≡ spec.data_update key.now rest.now held.now) }
 {
@@ -61,6 +64,7 @@ fn data_update(alloc: Global, key: &str, rest: &[Value], held: &Holdings) -> Res
     }
 }
 
+// Takes the pair out, and answers its value.
 fn data_pop(alloc: Global, key: &str, rest: &[Value], held: &Holdings) -> Result<Ran, AllocError>
     ensures { IfOk result (λ ran. ran ≡ spec.data_pop key.now rest.now held.now) }
 {
@@ -72,6 +76,7 @@ fn data_pop(alloc: Global, key: &str, rest: &[Value], held: &Holdings) -> Result
     Ok(success(alloc, value, change))
 }
 
+// Stores the new value where the old one is stored.
 fn data_cas(alloc: Global, key: &str, rest: &[Value], held: &Holdings) -> Result<Ran, AllocError>
     ensures { IfOk result (λ ran. ran ≡ spec.data_cas key.now rest.now held.now) }
 {
@@ -97,6 +102,7 @@ fn stored_number(found: Option<&Value>) -> Option<i64>
     }
 }
 
+// The number to add, 1 by default, None where the arguments are of another form.
 fn step_of(rest: &[Value]) -> Option<i64>
     ensures { result ≡ spec.step_of rest.now }
 {
@@ -107,6 +113,7 @@ fn step_of(rest: &[Value]) -> Option<i64>
     }
 }
 
+// Stores the sum, where it has 64 bits.
 fn sum_result(
     alloc: Global,
     key: &str,
@@ -124,6 +131,7 @@ fn sum_result(
     Ok(success(alloc, value, change))
 }
 
+// Adds the step to the number that is stored.
 fn data_incr(alloc: Global, key: &str, rest: &[Value], held: &Holdings) -> Result<Ran, AllocError>
     ensures { IfOk result (λ ran. ran ≡ spec.data_incr key.now rest.now held.now) }
 {
@@ -136,6 +144,7 @@ fn data_incr(alloc: Global, key: &str, rest: &[Value], held: &Holdings) -> Resul
     sum_result(alloc, key, number, step, held)
 }
 
+// Runs a function that changes nothing, and puts its answer into the mine.
 fn mine_send(alloc: Global, name: &str, args: &[Value], held: &Holdings) -> Result<Ran, AllocError>
     ensures { IfOk result (λ ran. ran ≡ spec.mine_send name.now (function_named name.now) args.now held.now) }
 {
@@ -149,6 +158,7 @@ fn mine_send(alloc: Global, name: &str, args: &[Value], held: &Holdings) -> Resu
     noted(alloc, change, Note::Mine)
 }
 
+// Takes the row out of the mine.
 fn mine_delete(
     alloc: Global,
     name: &str,
@@ -164,6 +174,7 @@ fn mine_delete(
     noted(alloc, change, Note::Mine)
 }
 
+// Fires an event.
 fn event_send(alloc: Global, tag: &str, rest: &[Value]) -> Result<Ran, AllocError>
     ensures { IfOk result (λ ran. ran ≡ spec.event_send tag.now rest.now) }
 {

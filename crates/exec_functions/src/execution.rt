@@ -14,6 +14,7 @@ use crate::results::{bad_arguments, noted, refusal};
 use salt_value::{Fields, Value, Word};
 use std::alloc::{AllocError, Global};
 
+// Empties the mine.
 fn mine_flush(alloc: Global, args: &[Value], held: &Holdings) -> Result<Ran, AllocError>
     ensures { IfOk result (λ ran. ran ≡ spec.mine_flush args.now held.now) }
 {
@@ -57,6 +58,7 @@ fn result_within(alloc: Global, ran: Ran) -> Result<Ran, AllocError>
     Ok(refusal(alloc, 1, String::from_str(alloc, "result too large")?))
 }
 
+// The refusal of a name that no function has.
 fn unknown_function(alloc: Global, name: &str) -> Result<Ran, AllocError>
     ensures { IfOk result (λ ran. ran ≡ spec.unknown_function name.now) }
 {
@@ -77,10 +79,11 @@ fn run_named(alloc: Global, name: &str, args: &[Value], held: &Holdings) -> Resu
 }
 
 /// What the function of this name makes of its arguments and of what a minion holds: its outcome, what it changed,
-/// and its notes. The functions are those of Salt's documentation, execution modules test, grains, pillar, data, mine
-/// and event. This project's own are the texts of refusals, that a refusal has retcode 1 (254 for an unknown
-/// function, as in Salt), that a path that leads nowhere gives the empty text or the default, that `data.incr` begins at 0 and refuses
-/// a sum outside 64 bits, and that an answer or a changed part over the limits of a value is refused.
+/// and its notes. An outcome has retcode 0, or 1 with a text that tells why nothing was done, or 254 where no function
+/// has the name. The functions are Salt's (Salt documentation, execution modules test, grains, pillar, data, mine and
+/// event). This project's own are the texts and that they come in place of errors of Python, that a missing grain is the
+/// empty text, that `data.incr` takes a step and refuses a sum outside 64 bits, that `mine.send` runs the seven
+/// functions that change nothing, and the limits of an answer and of a changed part.
 pub fn run(alloc: Global, fun: &Word, args: &[Value], held: &Holdings) -> Result<Ran, AllocError>
     ensures ok { IfOk result (λ ran. ran ≡ spec.run fun.now args.now held.now) }
     // Where the arguments are within the limits of a value, what is made is within those of a message.

@@ -1,5 +1,5 @@
 -- Values within the limits: texts, the empty map, and the members of a list.
-use Rattle.std.proofs.Common.{◌≡◌, ◌≤◌, ◌<◌, ◌^◌, ℕ, suc, Bool, true, ◌&&◌, List, [], ◌∷◌, ◌++◌, length, map, refl, sym, ap, ◌∙◌, arith, length-append}
+use Rattle.std.proofs.Common.{◌≡◌, ◌≤◌, ◌<◌, ◌^◌, ℕ, suc, Bool, true, List, [], ◌∷◌, length, map, sym, ap, ◌∙◌, arith, length-append}
 use Rattle.std.specs.Str.{is_utf8}
 use Rattle.std.specs.Int.{w32, to_be_bytes}
 use Rattle.salt_value.specs.declared.value.Value.{Value, fold-roll-Value}
@@ -7,7 +7,7 @@ use Rattle.salt_value.specs.declared.value.Value.TheVariants as v
 use Rattle.salt_value.specs.declared.value.Value.TheVariants.{rolls-Str}
 use Rattle.salt_value.specs.declared.value.Value.TheOpen.{Value-F}
 use Rattle.salt_value.specs.Spelling.{bytes, spelling_layer, text, joined}
-use Rattle.salt_value.specs.WellFormed.{ValueFits, depth, depth_layer, greatest, well_formed, well_formed_layer, is_count, is_text, every}
+use Rattle.salt_value.specs.WellFormed.{ValueFits, depth, depth_layer, well_formed, well_formed_layer, is_count, is_text, every}
 use Rattle.salt_value.proofs.ByteFields.{both, is_count_of, count_of_is, wide32}
 use Rattle.salt_value.proofs.WriteLemmas.{both_true}
 use Rattle.salt_value.proofs.ReadBack.{bytes-List, well_formed-List, depth-List, bytes-Map, well_formed-Map, depth-Map}
