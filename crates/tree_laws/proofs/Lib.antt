@@ -2,6 +2,7 @@ pub mod Lists
 pub mod Trees
 pub mod Places
 pub mod Records
+pub mod Done
 pub mod Steps
 pub mod Chains
 pub mod Calls
@@ -11,4 +12,3 @@ pub mod Rows
 pub mod Laws
 pub mod Grows
 pub mod Runs
-pub mod Example
