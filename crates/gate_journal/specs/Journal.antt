@@ -45,11 +45,11 @@ pub record Rests (limit len : ℕ) (payloads : List (List ℕ)) (part : PartStat
   pub counts : len ≡ journal_length payloads
   pub is_settled : IsSettled part
 
--- what stands behind the gate of a record that is the last one: it ends with a closed gate
+-- What stands behind the gate of a record that is the last one: it ends with a closed gate. No public contract cites it.
 abbrev pub tail_of : List ℕ → List ℕ
 tail_of payload = (big_bytes 4 (length payload) ++ payload) ++ closed_gate ∷ []
 
--- these bytes go behind the closed gate, for this payload, and there is room for it
+-- These bytes go behind the closed gate, for this payload, and there is room for it. No public contract cites it.
 pub record IsNext (limit len : ℕ) (payloads : List (List ℕ)) (payload body : List ℕ) (part : PartState) : Type 0 where
   pub rests : Rests limit len payloads part
   pub body_is : body ≡ tail_of payload

@@ -11,7 +11,7 @@ pub record PlacedPayloads : Type 0 where
 abbrev pub gate_place : PlacedPayloads → ℕ → ℕ
 gate_place payloads i = payloads.first + length (records (take i payloads.items))
 
--- there is one place for each payload, and it is that of its gate
+-- There is one place for each payload, and it is that of its gate. No public contract cites it.
 pub record ArePlaced (first : ℕ) (items : List (List ℕ)) (places : List ℕ) : Type 0 where
   pub counts : length places ≡ length items
   pub placed : (i : ℕ) → i < length items → slice_index places i ≡ first + length (records (take i items))

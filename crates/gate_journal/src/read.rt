@@ -94,7 +94,7 @@ pub fn read_journal(alloc: Global, bytes: &[u8]) -> Result<(u64, Payloads, u64),
 
 // Syncs a part, and reads it.
 pub fn read_synced<D: Disk>(alloc: Global, disk: &mut D, part: Part) -> Result<Vec<u8>, DiskFault>
-    ensures bytes { D.is_told → IfOk result (λ bytes. bytes.items ≡ (part_of (D.state disk.old) part).bytes) }
+    ensures ok { D.is_told → IfOk result (λ bytes. bytes.items ≡ (part_of (D.state disk.old) part).bytes) }
     ensures synced { D.is_told → (IsErrOf result DiskFault.Failed → ⊥) → IsSettled (part_of (D.state disk.new) part) }
     ensures same { D.is_told → (part_of (D.state disk.new) part).bytes ≡ (part_of (D.state disk.old) part).bytes }
     ensures others { D.is_told → OthersStay part (D.state disk.old) (D.state disk.new) }
@@ -109,7 +109,7 @@ pub fn read_synced<D: Disk>(alloc: Global, disk: &mut D, part: Part) -> Result<V
 
 // All the bytes of a part.
 fn read_part<D: Disk>(alloc: Global, disk: &mut D, part: Part) -> Result<Vec<u8>, DiskFault>
-    ensures bytes { D.is_told → IfOk result (λ bytes. bytes.items ≡ (part_of (D.state disk.old) part).bytes) }
+    ensures ok { D.is_told → IfOk result (λ bytes. bytes.items ≡ (part_of (D.state disk.old) part).bytes) }
     ensures same { D.is_told → Stays (D.state disk.old) (D.state disk.new) (D.past disk.old) (D.past disk.new) }
     ensures fuse { D.is_told → Lasts (D.fuse disk.old) (D.fuse disk.new) result }
     ensures faults { CountsFaults (IsErrOf result DiskFault.Failed) (D.faults disk.old) (D.faults disk.new) }

@@ -65,7 +65,7 @@ pub fn store<D: Disk>(disk: &mut D, part: Part, len: u64, body: &[u8]) -> Result
     requires begun { fresh_length ≤ len }
     requires some { 0 < length body.now }
     requires rests { D.is_told → (limit : ℕ) × ((payloads : _) × Rests limit len payloads (part_of (D.state disk.old) part)) }
-    ensures stored { D.is_told → OnOk result ((limit : ℕ) (payloads : _) (payload : List ℕ) → IsNext limit len payloads payload body.now (part_of (D.state disk.old) part)
+    ensures ok { D.is_told → OnOk result ((limit : ℕ) (payloads : _) (payload : List ℕ) → IsNext limit len payloads payload body.now (part_of (D.state disk.old) part)
         → Rests limit (len + record_overhead + length payload) (payloads ++ payload ∷ []) (part_of (D.state disk.new) part)) }
     ensures memory { D.is_told → IsErrOf result DiskFault.NoMemory → (limit : ℕ) (payloads : _) → Rests limit len payloads (part_of (D.state disk.old) part)
         → Rests limit len payloads (part_of (D.state disk.new) part) }
@@ -87,7 +87,7 @@ pub fn write_header<D: Disk>(disk: &mut D, part: Part, limit: u64) -> Result<(),
     requires greatest { limit ≤ greatest_limit }
     requires settled { D.is_told → IsSettled (part_of (D.state disk.old) part) }
     requires short { D.is_told → length (part_of (D.state disk.old) part).bytes ≤ fresh_length }
-    ensures made { D.is_told → OnOk result (Rests limit fresh_length [] (part_of (D.state disk.new) part)) }
+    ensures ok { D.is_told → OnOk result (Rests limit fresh_length [] (part_of (D.state disk.new) part)) }
     ensures bytes { D.is_told → OnOk result ((part_of (D.state disk.new) part).bytes ≡ fresh_journal limit) }
     ensures others { D.is_told → OthersStay part (D.state disk.old) (D.state disk.new) }
     ensures any_moment { D.is_told → LeavesOnly D.past D.state disk.old disk.new (HoldsNothing part (D.state disk.old)) }

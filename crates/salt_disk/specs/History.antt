@@ -37,19 +37,19 @@ abbrev pub states : DiskState → List Call → List DiskState
 states disk [] = []
 states disk (call ∷ calls) = disk ∷ states (step disk call) calls
 
--- the state after all of them
+-- The state after all of them. No public contract cites it.
 abbrev pub replay : DiskState → List Call → DiskState
 replay disk [] = disk
 replay disk (call ∷ calls) = replay (step disk call) calls
 
--- The calls of the record lead to this part, but that they may leave more bytes behind its end, where a cut that changes no image was made.
+-- The calls of the record lead to this part, but that they may leave more bytes behind its end, where a cut that changes no image was made. No public contract cites it.
 pub record LeadsTo (replayed part : PartState) : Type 0 where
   pub bytes : part.bytes ≡ take (length part.bytes) replayed.bytes
   pub unsure : part.unsure ≡ replayed.unsure
   pub least : part.least ≡ replayed.least
   pub greatest : part.greatest ≡ replayed.greatest
 
--- the calls of the record lead to each part of this disk
+-- The calls of the record lead to each part of this disk. No public contract cites it.
 abbrev pub Replays : DiskState → DiskState → Type 0
 Replays replayed disk = (part : Part) → LeadsTo (part_of replayed part) (part_of disk part)
 
@@ -57,37 +57,37 @@ Replays replayed disk = (part : Part) → LeadsTo (part_of replayed part) (part_
 abbrev pub whole : List ℕ → List ℕ → List ℕ → DiskState
 whole root even odd = record { root = settled root; even = settled even; odd = settled odd }
 
--- whether nothing is pending
+-- Whether nothing is pending. No public contract cites it.
 abbrev pub is_calm : PartState → Bool
 is_calm part = (length part.unsure == 0) && (part.least == part.greatest)
 
--- how many entries the part may still need before its next write: a sync, a cut and a sync
+-- How many entries the part may still need before its next write: a sync, a cut and a sync. No public contract cites it.
 abbrev pub owed : PartState → ℕ
 owed part = (if is_calm part then 0 else 1) + (if length part.bytes == 0 then 0 else 2)
 
--- the same over all parts
+-- The same over all parts. No public contract cites it.
 abbrev pub owed_by : DiskState → ℕ
 owed_by disk = owed disk.root + owed disk.even + owed disk.odd
 
--- whether the call is a write
+-- Whether the call is a write. No public contract cites it.
 abbrev pub is_write : Call → Bool
 is_write (Write part at bytes) = true
 is_write (Cut part) = false
 is_write (Sync part count) = false
 
--- how many parts have bytes
+-- How many parts have bytes. No public contract cites it.
 abbrev pub filled_parts : DiskState → ℕ
 filled_parts disk = (if length disk.root.bytes == 0 then 0 else 1) + (if length disk.even.bytes == 0 then 0 else 1) + (if length disk.odd.bytes == 0 then 0 else 1)
 
--- the most entries of a record: each write with a cut and two syncs, and a cut and two syncs for each part that began with bytes
+-- The most entries of a record: each write with a cut and two syncs, and a cut and two syncs for each part that began with bytes. No public contract cites it.
 abbrev pub most_entries : DiskState → List Call → ℕ
 most_entries first calls = 4 * count_by is_write calls + 3 * filled_parts first
 
--- the record has room within its bound for what the parts may still need
+-- The record has room within its bound for what the parts may still need. No public contract cites it.
 abbrev pub IsBounded : DiskState → List Call → DiskState → Type 0
 IsBounded first calls disk = length calls + owed_by disk ≤ most_entries first calls
 
--- the record of calls goes on with the disk, from whatever state it began
+-- The record of calls goes on with the disk, from whatever state it began. No public contract cites it.
 pub record IsRecorded (old new : DiskState) (calls since : List Call) : Type 0 where
   pub kept : (first : DiskState) → Replays (replay first calls) old → Replays (replay first since) new
   pub time : (first : DiskState) → Replays (replay first calls) old → PassesTime old new (states first calls) (states first since)

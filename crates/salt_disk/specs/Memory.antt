@@ -22,10 +22,11 @@ honest_parts parts Root = (parts.root.no_more, parts.root.no_less)
 honest_parts parts Even = (parts.even.no_more, parts.even.no_less)
 honest_parts parts Odd = (parts.odd.no_more, parts.odd.no_less)
 
--- where a write is pending, its range has a place within what a crash may leave
+-- Where a write is pending, its range has a place within what a crash may leave. No public contract cites it.
 abbrev pub HasPlace : PartState → Type 0
 HasPlace part = ForSome (slice_get part.unsure 0) (λ range. (range.start < range.end) × (range.end ≤ part.greatest))
 
+-- Each part of a disk in memory has that. No public contract cites it.
 pub pending_parts : (parts : Parts) (part : Part) → HasPlace (part_of (parts_state parts) part)
 pending_parts parts Root = parts.root.pending
 pending_parts parts Even = parts.even.pending

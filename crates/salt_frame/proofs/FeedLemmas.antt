@@ -6,7 +6,7 @@ use Rattle.std.specs.List.{AllByRecursion}
 use Rattle.std.proofs.lemmas.List.{drop_at, length-take, length-drop, drop-drop, take-append-drop, take-append-le, drop-append-le, take-take}
 use Rattle.std.proofs.lemmas.List.Concat.{flat_map-cons}
 use Rattle.salt_frame.specs.Frames.{frame, frames, IsBody, IsPartial, IsOver, Splits, HasOver}
-use Rattle.salt_frame.specs.Held.{Held, Holds}
+use Rattle.salt_frame.specs.Held.{Held, HoldsRest}
 use Rattle.salt_frame.specs.Inside.{AreFrames, Tail}
 use Rattle.salt_frame.proofs.Readings.{one}
 
@@ -55,7 +55,7 @@ splits s w d le r = record {
   each = r.2;
 }
 
-pub holds_partial : (s w : ℕ) (d : List ℕ) → s ≤ w → AreFrames (take (w - s) (drop s d)) → IsPartial (drop w d) → Holds (drop s d) [] (record { kept = drop s d; over = None })
+pub holds_partial : (s w : ℕ) (d : List ℕ) → s ≤ w → AreFrames (take (w - s) (drop s d)) → IsPartial (drop w d) → HoldsRest (drop s d) [] (record { kept = drop s d; over = None })
 holds_partial s w d le r last = let p = splits s w d le r in record { others = r.0; rest = drop w d; reads = record { splits = p; ends = last }; kept = p.whole }
 
 -- behind a place that is kept, a front of the bytes is a front of what stands there
@@ -82,7 +82,7 @@ cut_last w n d within o =
     let k : w + 4 - w ≡ 4 = omega arith in
     (o.0, o.1, cut_at w (w + 4) d (omega arith) room ∙ ap (λ j. take j (drop w d)) k ∙ (over_front n (drop w d) o).0)
 
-pub holds_over : (s w n : ℕ) (d : List ℕ) → s ≤ w → w ≤ length d → AreFrames (take (w - s) (drop s d)) → IsOver n (drop w d) → Holds (drop s d) [] (record { kept = drop s (take (w + 4) d); over = Some n })
+pub holds_over : (s w n : ℕ) (d : List ℕ) → s ≤ w → w ≤ length d → AreFrames (take (w - s) (drop s d)) → IsOver n (drop w d) → HoldsRest (drop s d) [] (record { kept = drop s (take (w + 4) d); over = Some n })
 holds_over s w n d le within r o =
     let room = over_room w n d within o in
     let k : w + 4 - s ≡ (w - s) + 4 = omega arith in
@@ -91,7 +91,7 @@ holds_over s w n d le within r o =
     record { others = r.0; rest = drop w d; reads = record { splits = splits s w d le r; ends = o }; kept = kept }
 
 -- a stream whose length over the limit is n has no other end
-pub only_over : (n : ℕ) (stream : List ℕ) (h : Held) → HasOver n stream → Holds stream [] h → h.over ≡ Some n
+pub only_over : (n : ℕ) (stream : List ℕ) (h : Held) → HasOver n stream → HoldsRest stream [] h → h.over ≡ Some n
 only_over n stream h o g = sym (one stream o.0 g.others (Some n) h.over o.1 g.rest o.2 g.reads).1
 
 pub ok_of : {A E : Type 0} (r : Result A E) → is_err r ≡ false → is_ok r ≡ true
@@ -134,22 +134,22 @@ feed_kept s bs piece d e small = ap (drop s) e ∙ drop-append-le s bs piece sma
 
 -- a feed that found a length over the limit
 pub over_held : (s w w' n : ℕ) (over : Option ℕ) (bs piece d cut kept : List ℕ) → Fed s w w' over bs piece d → over ≡ Some n → drop s bs ≡ kept → cut ≡ take (w' + 4) d
-    → Holds (kept ++ piece) [] (record { kept = drop s cut; over = Some n })
+    → HoldsRest (kept ++ piece) [] (record { kept = drop s cut; over = Some n })
 over_held s w w' n over bs piece d cut kept f e k c =
     let le : s ≤ w' = omega (arith, f.ordered, f.next) in
     let stream : drop s d ≡ kept ++ piece = feed_kept s bs piece d f.items (omega (arith, f.ordered, f.small)) ∙ ap (λ l. l ++ piece) k in
-    subst (λ l. Holds l [] (record { kept = drop s cut; over = Some n })) stream
-    (subst (λ l. Holds (drop s d) [] (record { kept = drop s l; over = Some n })) (sym c) (holds_over s w' n d le f.within f.ready (over_of w' n over d e f.last)))
+    subst (λ l. HoldsRest l [] (record { kept = drop s cut; over = Some n })) stream
+    (subst (λ l. HoldsRest (drop s d) [] (record { kept = drop s l; over = Some n })) (sym c) (holds_over s w' n d le f.within f.ready (over_of w' n over d e f.last)))
 
 -- a feed after which no length over the limit stands there
 pub partial_held : (s w w' : ℕ) (over : Option ℕ) (bs piece d kept : List ℕ) (own : Option ℕ) → Fed s w w' over bs piece d → over ≡ None → drop s bs ≡ kept → own ≡ None
-    → (◌≡◌ {A = Held} (record { kept = drop s d; over = own }) (record { kept = kept ++ piece; over = None })) × Holds (kept ++ piece) [] (record { kept = drop s d; over = own })
+    → (◌≡◌ {A = Held} (record { kept = drop s d; over = own }) (record { kept = kept ++ piece; over = None })) × HoldsRest (kept ++ piece) [] (record { kept = drop s d; over = own })
 partial_held s w w' over bs piece d kept own f e k o =
     let le : s ≤ w' = omega (arith, f.ordered, f.next) in
     let stream : drop s d ≡ kept ++ piece = feed_kept s bs piece d f.items (omega (arith, f.ordered, f.small)) ∙ ap (λ l. l ++ piece) k in (
       λ i. record { kept = stream i; over = o i },
-      subst (λ (p : Option ℕ). Holds (kept ++ piece) [] (record { kept = drop s d; over = p })) (sym o)
-          (subst (λ l. Holds l [] (record { kept = drop s d; over = None })) stream (holds_partial s w' d le f.ready (partial_of w' over d e f.last))),
+      subst (λ (p : Option ℕ). HoldsRest (kept ++ piece) [] (record { kept = drop s d; over = p })) (sym o)
+          (subst (λ l. HoldsRest l [] (record { kept = drop s d; over = None })) stream (holds_partial s w' d le f.ready (partial_of w' over d e f.last))),
     )
 
 pub same_over : (m n : ℕ) → Some m ≡ Some n → m ≡ n

@@ -4,7 +4,7 @@ use Rattle.salt_frame.specs.declared.front.Front.{Front}
 use Rattle.salt_frame.specs.declared.front.Front.TheVariants as fronts
 use Rattle.salt_frame.specs.Frames.{frame, IsBody, IsPartial, IsOver}
 
--- the front is told rightly: a whole frame of this size, less than one, or a length over the limit
+-- The front is told rightly: a whole frame of this size, less than one, or a length over the limit. No public contract cites it.
 abbrev pub IsFront : List ℕ → Front → Type 0
 IsFront bytes fronts.Partial = IsPartial bytes
 IsFront bytes (fronts.Over n) = IsOver n bytes

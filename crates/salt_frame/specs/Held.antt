@@ -19,7 +19,7 @@ kept_of None rest = rest
 kept_of (Some n) rest = to_be_bytes w32 n
 
 -- of this stream the first bodies are taken: the others, and what is kept of the rest, are held
-pub record Holds (stream : List ℕ) (taken : List (List ℕ)) (h : Held) : Type 0 where
+pub record HoldsRest (stream : List ℕ) (taken : List (List ℕ)) (h : Held) : Type 0 where
   pub others : List (List ℕ)
   pub rest : List ℕ
   pub reads : Reads stream (taken ++ others) h.over rest
@@ -27,14 +27,14 @@ pub record Holds (stream : List ℕ) (taken : List (List ℕ)) (h : Held) : Type
 
 -- of each stream of which the old holds what was not taken, the new does so once this piece came
 abbrev pub Feeds : Held → List ℕ → Held → Type 0
-Feeds old piece new = (stream : List ℕ) (taken : List (List ℕ)) → Holds stream taken old → Holds (stream ++ piece) taken new
+Feeds old piece new = (stream : List ℕ) (taken : List (List ℕ)) → HoldsRest stream taken old → HoldsRest (stream ++ piece) taken new
 
 -- and once this body was taken
 abbrev pub Lends : Held → List ℕ → Held → Type 0
-Lends old body new = (stream : List ℕ) (taken : List (List ℕ)) → Holds stream taken old → Holds stream (taken ++ body ∷ []) new
+Lends old body new = (stream : List ℕ) (taken : List (List ℕ)) → HoldsRest stream taken old → HoldsRest stream (taken ++ body ∷ []) new
 
 -- the body of the first frame is taken, or nothing
-pub record Takes (old : Held) (taken : Option (List ℕ)) (new : Held) : Type 0 where
+pub record TakesNext (old : Held) (taken : Option (List ℕ)) (new : Held) : Type 0 where
   pub some : (body : List ℕ) → taken ≡ Some body → IsBody body × (old.kept ≡ frame body ++ new.kept) × (new.over ≡ old.over)
   pub none : taken ≡ None → new ≡ old
   -- of each stream it is the next one

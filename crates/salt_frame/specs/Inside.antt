@@ -7,19 +7,19 @@ use Rattle.salt_frame.specs.Held.{Held}
 use Rattle.salt_frame.specs.declared.buffer.FrameBuf.TheInside.{Inside}
 
 -- what a buffer's fields hold
-abbrev pub held : Inside → Held
-held a = record { kept = drop a.start a.bytes.items; over = a.over }
+abbrev pub view_of : Inside → Held
+view_of a = record { kept = drop a.start a.bytes.items; over = a.over }
 
--- whole frames alone
+-- Whole frames alone. No public contract cites it.
 abbrev pub AreFrames : List ℕ → Type 0
 AreFrames bytes = (bodies : List (List ℕ)) × (bytes ≡ frames bodies) × AllByRecursion IsBody bodies
 
--- less than a whole frame, or nothing but the length that is over the limit
+-- Less than a whole frame, or nothing but the length that is over the limit. No public contract cites it.
 abbrev pub Tail : Option ℕ → List ℕ → Type 0
 Tail None rest = IsPartial rest
 Tail (Some n) rest = (limit < n) × (n < 2 ^ 32) × (rest ≡ to_be_bytes w32 n)
 
--- the fields fit together: frames that were not taken, whole ones, and then the rest
+-- The fields fit together: frames that were not taken, whole ones, and then the rest. No public contract cites it.
 pub record IsInside (a : Inside) : Type 0 where
   pub ordered : a.start ≤ a.ready
   pub within : a.ready ≤ length a.bytes.items

@@ -1,6 +1,6 @@
 -- Every run of feeds and takings.
 use Rattle.std.specs.Prelude.{◌≡◌, ℕ, List, [], ◌∷◌, ◌++◌, None}
-use Rattle.salt_frame.specs.Held.{Held, Holds, Feeds, Lends}
+use Rattle.salt_frame.specs.Held.{Held, HoldsRest, Feeds, Lends}
 
 -- a feed that took its piece, or found a length over the limit; and a call of next that lent a body
 pub data Event : Type 0 where
@@ -31,4 +31,4 @@ bodies (took body ∷ es) = body ∷ bodies es
 
 -- However the stream was cut: the bodies taken are the first of its frames, and the other frames and the rest are held.
 abbrev pub AnyCutting : Type 0
-AnyCutting = (es : List Event) (new : Held) → Runs (record { kept = []; over = None }) es new → Holds (stream es) (bodies es) new
+AnyCutting = (es : List Event) (new : Held) → Runs (record { kept = []; over = None }) es new → HoldsRest (stream es) (bodies es) new

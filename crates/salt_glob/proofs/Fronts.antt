@@ -3,7 +3,7 @@ use Rattle.std.proofs.Common.{◌≡◌, ◌≢◌, ℕ, ◌==◌, Bool, true, f
 use Rattle.std.specs.Prelude.{if◌then◌else◌, Option, None, Some}
 use Rattle.std.proofs.lemmas.Bool.Decides.{nat_tests}
 use Rattle.salt_glob.specs.Classes.{Class, class_of, class_size}
-use Rattle.salt_glob.specs.Globs.{Piece, star, any, set, plain, opened, piece, more, pieces_after, pieces, Hold}
+use Rattle.salt_glob.specs.Globs.{Piece, star, any, set, plain, opened, piece, more, pieces_after, pieces, Matches}
 use Rattle.salt_glob.specs.Fronts.{Takes, IsByFront}
 use Rattle.salt_glob.proofs.Pieces.{pieces_after-drop}
 
@@ -32,14 +32,14 @@ other_piece x rest s q c =
 other_pieces : (x : ℕ) (rest : List ℕ) → x ≢ 42 → x ≢ 63 → x ≢ 91 → pieces (x ∷ rest) ≡ plain x ∷ pieces rest
 other_pieces x rest s q c = ap (λ (p : Piece). p ∷ pieces_after (more p) rest) (other_piece x rest s q c)
 
-plain_takes : (x : ℕ) (rest text : List ℕ) → Hold (plain x ∷ pieces rest) text → Takes (λ b. b ≡ x) rest text
+plain_takes : (x : ℕ) (rest text : List ℕ) → Matches (plain x ∷ pieces rest) text → Takes (λ b. b ≡ x) rest text
 plain_takes x rest text h = (x, h.0, h.1, refl, h.2)
 
-takes_plain : (x : ℕ) (rest text : List ℕ) → Takes (λ b. b ≡ x) rest text → Hold (plain x ∷ pieces rest) text
+takes_plain : (x : ℕ) (rest text : List ℕ) → Takes (λ b. b ≡ x) rest text → Matches (plain x ∷ pieces rest) text
 takes_plain x rest text h = (h.1, h.2 ∙ ap (λ (n : ℕ). n ∷ h.1) h.3, h.4)
 
-along : (ps qs : List Piece) (text : List ℕ) → ps ≡ qs → Hold ps text → Hold qs text
-along ps qs text e h = subst (λ (rs : List Piece). Hold rs text) e h
+along : (ps qs : List Piece) (text : List ℕ) → ps ≡ qs → Matches ps text → Matches qs text
+along ps qs text e h = subst (λ (rs : List Piece). Matches rs text) e h
 
 pub by_front : IsByFront
 by_front = record {

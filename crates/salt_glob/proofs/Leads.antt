@@ -4,7 +4,7 @@ use Rattle.std.specs.Prelude.{None, Some}
 use Rattle.std.proofs.lemmas.List.{length-drop}
 use Rattle.std.proofs.lemmas.Bool.Decides.{nat_tests}
 use Rattle.std.proofs.Math.ListN.{drop_of_length-le}
-use Rattle.salt_glob.specs.Globs.{pieces, more, is_star, Hold, Glob, HoldAt, HoldLater, piece_at, taken_by}
+use Rattle.salt_glob.specs.Globs.{pieces, more, is_star, Matches, Glob, MatchesAt, MatchesLater, piece_at, taken_by}
 use Rattle.salt_glob.proofs.Pieces.{pieces_at, hold_nil, taken_some}
 use Rattle.salt_glob.proofs.Searches.{one_back, one_forth, none_holds, star_later, later_star}
 
@@ -12,8 +12,8 @@ use Rattle.salt_glob.proofs.Searches.{one_back, one_forth, none_holds, star_late
 pub record Lead (xs ts : List ℕ) (p t : ℕ) : Type 0 where
   pub place : p ≤ length xs
   pub within : t ≤ length ts
-  pub back : HoldAt xs ts p t → Glob xs ts
-  pub forth : Glob xs ts → HoldAt xs ts p t
+  pub back : MatchesAt xs ts p t → Glob xs ts
+  pub forth : Glob xs ts → MatchesAt xs ts p t
 
 pub lead_begin : (xs ts : List ℕ) → Lead xs ts 0 0
 lead_begin xs ts = record { place = omega arith; within = omega arith; back = λ h. h; forth = λ h. h }
@@ -28,14 +28,14 @@ lead_one xs ts p t n h k e w l = record {
 }
 
 pub lead_star : (xs ts : List ℕ) (p t : ℕ) (r : Bool) → p < length xs → get_or xs p 0 ≡ 42 → Lead xs ts p t
-    → (r ≡ true → HoldLater xs ts (p + 1) t) × (HoldLater xs ts (p + 1) t → r ≡ true) → (r ≡ true → Glob xs ts) × (Glob xs ts → r ≡ true)
+    → (r ≡ true → MatchesLater xs ts (p + 1) t) × (MatchesLater xs ts (p + 1) t → r ≡ true) → (r ≡ true → Glob xs ts) × (Glob xs ts → r ≡ true)
 lead_star xs ts p t r h e l both =
     (λ f. l.back (later_star xs ts p t h e (both.0 f)), λ g. both.1 (star_later xs ts p t h e (l.forth g)))
 
 pub lead_short : (xs ts : List ℕ) (p t : ℕ) → p < length xs → is_star (piece_at xs p) ≡ false → length ts ≤ t → Lead xs ts p t → Glob xs ts → ⊥
 lead_short xs ts p t h s k l g =
     hold_nil (piece_at xs p) (pieces (drop (p + (more (piece_at xs p) + 1)) xs)) s
-    (subst (Hold (piece_at xs p ∷ pieces (drop (p + (more (piece_at xs p) + 1)) xs))) (drop_of_length-le ts k) (subst (λ ps. Hold ps (drop t ts)) (pieces_at xs p h) (l.forth g)))
+    (subst (Matches (piece_at xs p ∷ pieces (drop (p + (more (piece_at xs p) + 1)) xs))) (drop_of_length-le ts k) (subst (λ ps. Matches ps (drop t ts)) (pieces_at xs p h) (l.forth g)))
 
 pub lead_none : (xs ts : List ℕ) (p t : ℕ) → p < length xs → t < length ts → is_star (piece_at xs p) ≡ false → taken_by (piece_at xs p) (get_or ts t 0) ≡ None → Lead xs ts p t → Glob xs ts → ⊥
 lead_none xs ts p t h k s e l g = none_holds xs ts p t k (λ _. s) (λ _. e) (l.forth g)

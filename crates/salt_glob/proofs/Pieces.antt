@@ -6,7 +6,7 @@ use Rattle.std.proofs.lemmas.List.{drop_more, take-append-drop}
 use Rattle.std.proofs.lemmas.Bool.Decides.{nat_tests}
 use Rattle.std.proofs.Math.Seq.{drop-append_seam}
 use Rattle.salt_glob.specs.Classes.{Class, class_of, in_class}
-use Rattle.salt_glob.specs.Globs.{Piece, star, any, set, plain, opened, piece, more, pieces_after, pieces, takes, is_star, Hold, Glob, piece_at, taken_by, held, some_suffix, after_first}
+use Rattle.salt_glob.specs.Globs.{Piece, star, any, set, plain, opened, piece, more, pieces_after, pieces, takes, is_star, Matches, Glob, piece_at, taken_by, is_match, some_suffix, after_first}
 use Rattle.salt_glob.proofs.Lists.{drop_add}
 
 pub pieces_after-drop : (k : ℕ) (p : List ℕ) → pieces_after k p ≡ pieces (drop k p)
@@ -31,46 +31,46 @@ byte_same : (a b : ℕ) → a ≡ b → (a == b) ≡ true
 byte_same a b e = grind (arith, nat_tests)
 
 -- a piece that takes the first byte leaves the rest
-pub hold_one : (x : Piece) (ps : List Piece) (b : ℕ) (rest : List ℕ) → takes x b ≡ true → Hold ps rest → Hold (x ∷ ps) (b ∷ rest)
+pub hold_one : (x : Piece) (ps : List Piece) (b : ℕ) (rest : List ℕ) → takes x b ≡ true → Matches ps rest → Matches (x ∷ ps) (b ∷ rest)
 hold_one star ps b rest e h = absurd cc
 hold_one any ps b rest e h = (b, rest, refl, h)
 hold_one (set c) ps b rest e h = (b, rest, refl, e, h)
 hold_one (plain y) ps b rest e h = (rest, ap (λ (n : ℕ). n ∷ rest) (same_byte b y e), h)
 
 -- and no other piece but `*` holds there
-pub hold_rest : (x : Piece) (ps : List Piece) (b : ℕ) (rest : List ℕ) → is_star x ≡ false → Hold (x ∷ ps) (b ∷ rest) → (takes x b ≡ true) × Hold ps rest
+pub hold_rest : (x : Piece) (ps : List Piece) (b : ℕ) (rest : List ℕ) → is_star x ≡ false → Matches (x ∷ ps) (b ∷ rest) → (takes x b ≡ true) × Matches ps rest
 hold_rest star ps b rest s h = absurd cc
 hold_rest any ps b rest s h =
     let e = h.2 in let same : h.1 ≡ rest = cc in
-    (refl, subst (Hold ps) same h.3)
+    (refl, subst (Matches ps) same h.3)
 hold_rest (set c) ps b rest s h =
     let e = h.2 in let same : h.1 ≡ rest = cc in let byte : h.0 ≡ b = cc in
-    (ap (λ (n : ℕ). in_class n c) (sym byte) ∙ h.3, subst (Hold ps) same h.4)
+    (ap (λ (n : ℕ). in_class n c) (sym byte) ∙ h.3, subst (Matches ps) same h.4)
 hold_rest (plain y) ps b rest s h =
     let e = h.1 in let same : h.0 ≡ rest = cc in let byte : b ≡ y = cc in
-    (byte_same b y byte, subst (Hold ps) same h.2)
+    (byte_same b y byte, subst (Matches ps) same h.2)
 
-pub hold_nil : (x : Piece) (ps : List Piece) → is_star x ≡ false → Hold (x ∷ ps) [] → ⊥
+pub hold_nil : (x : Piece) (ps : List Piece) → is_star x ≡ false → Matches (x ∷ ps) [] → ⊥
 hold_nil star ps s h = cc
 hold_nil any ps s h = let e = h.2 in cc
 hold_nil (set c) ps s h = let e = h.2 in cc
 hold_nil (plain y) ps s h = let e = h.1 in cc
 
 -- `*` leaves what is left from a later place on
-pub hold_star : (ps : List Piece) (ts : List ℕ) (t u : ℕ) → t ≤ u → Hold ps (drop u ts) → Hold (star ∷ ps) (drop t ts)
+pub hold_star : (ps : List Piece) (ts : List ℕ) (t u : ℕ) → t ≤ u → Matches ps (drop u ts) → Matches (star ∷ ps) (drop t ts)
 hold_star ps ts t u le h =
     let back : t + (u - t) ≡ u = omega arith in (
       take (u - t) (drop t ts),
       drop (u - t) (drop t ts),
       sym (take-append-drop (u - t) (drop t ts)),
-      subst (Hold ps) (sym (drop_add ts t (u - t) ∙ ap (λ (n : ℕ). drop n ts) back)) h,
+      subst (Matches ps) (sym (drop_add ts t (u - t) ∙ ap (λ (n : ℕ). drop n ts) back)) h,
     )
 
-pub hold_later : (ps : List Piece) (ts : List ℕ) (t : ℕ) → Hold (star ∷ ps) (drop t ts) → (u : ℕ) × (t ≤ u) × Hold ps (drop u ts)
+pub hold_later : (ps : List Piece) (ts : List ℕ) (t : ℕ) → Matches (star ∷ ps) (drop t ts) → (u : ℕ) × (t ≤ u) × Matches ps (drop u ts)
 hold_later ps ts t h =
     let n = length h.0 in
     let left : h.1 ≡ drop (t + n) ts = sym (drop-append_seam h.0 h.1) ∙ ap (drop n) (sym h.2) ∙ drop_add ts t n in
-    (t + n, omega arith, subst (Hold ps) left h.3)
+    (t + n, omega arith, subst (Matches ps) left h.3)
 
 -- a byte `*` alone is the piece `*`
 class_not_star : (o : Option Class) → is_star (opened o) ≡ false
@@ -125,15 +125,15 @@ taken_none x b e = none_of (takes x b) (more x + 1) e
 star_first : (b : ℕ) (xs : List ℕ) → b ≡ 42 → pieces (b ∷ xs) ≡ star ∷ pieces xs
 star_first b xs e = rw e refl
 
-hold_star_nil : (ps : List Piece) → Hold ps [] → Hold (star ∷ ps) []
+hold_star_nil : (ps : List Piece) → Matches ps [] → Matches (star ∷ ps) []
 hold_star_nil ps h = ([], [], refl, h)
 
 nil_end : (before after : List ℕ) → before ++ after ≡ [] → after ≡ []
 nil_end [] after e = e
 nil_end (b ∷ before) after e = absurd cc
 
-star_nil_hold : (ps : List Piece) → Hold (star ∷ ps) [] → Hold ps []
-star_nil_hold ps h = subst (Hold ps) (nil_end h.0 h.1 (sym h.2)) h.3
+star_nil_hold : (ps : List Piece) → Matches (star ∷ ps) [] → Matches ps []
+star_nil_hold ps h = subst (Matches ps) (nil_end h.0 h.1 (sym h.2)) h.3
 
 and_first : (a b : Bool) → (a && b) ≡ true → a ≡ true
 and_first a b e = grind arith
@@ -147,12 +147,12 @@ and_both a b e f = grind arith
 pub stars_hold : (xs : List ℕ) → list_all (λ b. b == 42) xs ≡ true → Glob xs []
 stars_hold [] e = refl
 stars_hold (b ∷ xs) e =
-    subst (λ (ps : List Piece). Hold ps []) (sym (star_first b xs (same_byte b 42 (and_first _ _ e))))
+    subst (λ (ps : List Piece). Matches ps []) (sym (star_first b xs (same_byte b 42 (and_first _ _ e))))
     (hold_star_nil (pieces xs) (stars_hold xs (and_second _ _ e)))
 
 hold_stars_of : (b : ℕ) (xs : List ℕ) (s : Bool) → (b == 42) ≡ s → (Glob xs [] → list_all (λ c. c == 42) xs ≡ true) → Glob (b ∷ xs) [] → list_all (λ c. c == 42) (b ∷ xs) ≡ true
 hold_stars_of b xs true e ih h =
-    and_both (b == 42) _ e (ih (star_nil_hold (pieces xs) (subst (λ (ps : List Piece). Hold ps []) (star_first b xs (same_byte b 42 e)) h)))
+    and_both (b == 42) _ e (ih (star_nil_hold (pieces xs) (subst (λ (ps : List Piece). Matches ps []) (star_first b xs (same_byte b 42 e)) h)))
 hold_stars_of b xs false e ih h = absurd (hold_nil (piece b xs) _ (piece_star b xs ∙ e) h)
 
 pub hold_stars : (xs : List ℕ) → Glob xs [] → list_all (λ b. b == 42) xs ≡ true
@@ -164,7 +164,7 @@ or_cases : (a b : Bool) → (a || b) ≡ true → (a ≡ true) ⊎ (b ≡ true)
 or_cases true b e = inl refl
 or_cases false b e = inr e
 
-suffix_hold : (ps : List Piece) (f : List ℕ → Bool) → ((ts : List ℕ) → f ts ≡ true → Hold ps ts) → (ts : List ℕ) → some_suffix f ts ≡ true → Hold (star ∷ ps) ts
+suffix_hold : (ps : List Piece) (f : List ℕ → Bool) → ((ts : List ℕ) → f ts ≡ true → Matches ps ts) → (ts : List ℕ) → some_suffix f ts ≡ true → Matches (star ∷ ps) ts
 suffix_hold ps f h [] e = ([], [], refl, h [] e)
 suffix_hold ps f h (b ∷ ts) e = elim (or_cases (f (b ∷ ts)) (some_suffix f ts) e) [
   | inl first ↦ ([], b ∷ ts, refl, h (b ∷ ts) first)
@@ -177,36 +177,36 @@ or_of_first a b e = grind arith
 or_of_second : (a b : Bool) → b ≡ true → (a || b) ≡ true
 or_of_second a b e = grind arith
 
-hold_suffix : (ps : List Piece) (f : List ℕ → Bool) → ((ts : List ℕ) → Hold ps ts → f ts ≡ true) → (before after : List ℕ) → Hold ps after → some_suffix f (before ++ after) ≡ true
+hold_suffix : (ps : List Piece) (f : List ℕ → Bool) → ((ts : List ℕ) → Matches ps ts → f ts ≡ true) → (before after : List ℕ) → Matches ps after → some_suffix f (before ++ after) ≡ true
 hold_suffix ps f h [] [] g = h [] g
 hold_suffix ps f h [] (b ∷ after) g = or_of_first (f (b ∷ after)) _ (h (b ∷ after) g)
 hold_suffix ps f h (b ∷ before) after g = or_of_second (f ((b ∷ before) ++ after)) _ (hold_suffix ps f h before after g)
 
-one_holds : (x : Piece) (ps : List Piece) (f : List ℕ → Bool) → ((ts : List ℕ) → f ts ≡ true → Hold ps ts) → (ts : List ℕ) → after_first x f ts ≡ true → Hold (x ∷ ps) ts
+one_holds : (x : Piece) (ps : List Piece) (f : List ℕ → Bool) → ((ts : List ℕ) → f ts ≡ true → Matches ps ts) → (ts : List ℕ) → after_first x f ts ≡ true → Matches (x ∷ ps) ts
 one_holds x ps f h [] e = absurd cc
 one_holds x ps f h (b ∷ ts) e = hold_one x ps b ts (and_first _ _ e) (h ts (and_second _ _ e))
 
-holds_one : (x : Piece) (ps : List Piece) (f : List ℕ → Bool) → is_star x ≡ false → ((ts : List ℕ) → Hold ps ts → f ts ≡ true) → (ts : List ℕ) → Hold (x ∷ ps) ts → after_first x f ts ≡ true
+holds_one : (x : Piece) (ps : List Piece) (f : List ℕ → Bool) → is_star x ≡ false → ((ts : List ℕ) → Matches ps ts → f ts ≡ true) → (ts : List ℕ) → Matches (x ∷ ps) ts → after_first x f ts ≡ true
 holds_one x ps f s h [] g = absurd (hold_nil x ps s g)
 holds_one x ps f s h (b ∷ ts) g = let r = hold_rest x ps b ts s g in and_both (takes x b) (f ts) r.0 (h ts r.1)
 
-pub held_hold : (ps : List Piece) (ts : List ℕ) → held ps ts ≡ true → Hold ps ts
-unfolding held
+pub held_hold : (ps : List Piece) (ts : List ℕ) → is_match ps ts ≡ true → Matches ps ts
+unfolding is_match
 held_hold [] [] e = refl
 held_hold [] (b ∷ ts) e = absurd cc
-held_hold (star ∷ ps) ts e = suffix_hold ps (held ps) (held_hold ps) ts e
-held_hold (any ∷ ps) ts e = one_holds any ps (held ps) (held_hold ps) ts e
-held_hold (set c ∷ ps) ts e = one_holds (set c) ps (held ps) (held_hold ps) ts e
-held_hold (plain y ∷ ps) ts e = one_holds (plain y) ps (held ps) (held_hold ps) ts e
+held_hold (star ∷ ps) ts e = suffix_hold ps (is_match ps) (held_hold ps) ts e
+held_hold (any ∷ ps) ts e = one_holds any ps (is_match ps) (held_hold ps) ts e
+held_hold (set c ∷ ps) ts e = one_holds (set c) ps (is_match ps) (held_hold ps) ts e
+held_hold (plain y ∷ ps) ts e = one_holds (plain y) ps (is_match ps) (held_hold ps) ts e
 
-pub hold_held : (ps : List Piece) (ts : List ℕ) → Hold ps ts → held ps ts ≡ true
-unfolding held
+pub hold_held : (ps : List Piece) (ts : List ℕ) → Matches ps ts → is_match ps ts ≡ true
+unfolding is_match
 hold_held [] [] h = refl
 hold_held [] (b ∷ ts) h = absurd cc
-hold_held (star ∷ ps) ts h = ap (some_suffix (held ps)) h.2 ∙ hold_suffix ps (held ps) (hold_held ps) h.0 h.1 h.3
-hold_held (any ∷ ps) ts h = holds_one any ps (held ps) refl (hold_held ps) ts h
-hold_held (set c ∷ ps) ts h = holds_one (set c) ps (held ps) refl (hold_held ps) ts h
-hold_held (plain y ∷ ps) ts h = holds_one (plain y) ps (held ps) refl (hold_held ps) ts h
+hold_held (star ∷ ps) ts h = ap (some_suffix (is_match ps)) h.2 ∙ hold_suffix ps (is_match ps) (hold_held ps) h.0 h.1 h.3
+hold_held (any ∷ ps) ts h = holds_one any ps (is_match ps) refl (hold_held ps) ts h
+hold_held (set c ∷ ps) ts h = holds_one (set c) ps (is_match ps) refl (hold_held ps) ts h
+hold_held (plain y ∷ ps) ts h = holds_one (plain y) ps (is_match ps) refl (hold_held ps) ts h
 
 bool_of : (a b : Bool) → (a ≡ true → b ≡ true) → (b ≡ true → a ≡ true) → a ≡ b
 bool_of true b f g = sym (f refl)
@@ -214,5 +214,5 @@ bool_of false true f g = g refl
 bool_of false false f g = refl
 
 -- what tells the relation is the function
-pub told_held : (r : Bool) (ps : List Piece) (ts : List ℕ) → (r ≡ true → Hold ps ts) → (Hold ps ts → r ≡ true) → r ≡ held ps ts
-told_held r ps ts f g = bool_of r (held ps ts) (λ e. hold_held ps ts (f e)) (λ e. g (held_hold ps ts e))
+pub told_held : (r : Bool) (ps : List Piece) (ts : List ℕ) → (r ≡ true → Matches ps ts) → (Matches ps ts → r ≡ true) → r ≡ is_match ps ts
+told_held r ps ts f g = bool_of r (is_match ps ts) (λ e. hold_held ps ts (f e)) (λ e. g (held_hold ps ts e))

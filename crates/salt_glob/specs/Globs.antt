@@ -42,18 +42,18 @@ takes any b = true
 takes (set c) b = in_class b c
 takes (plain x) b = b == x
 
--- Pieces hold for a text. No piece holds for the empty text alone; `*` leaves any suffix to the others, and each other
+-- These pieces match a text. No piece matches the empty text alone; `*` leaves any suffix to the others, and each other
 -- piece takes the first byte and leaves the rest.
-abbrev pub Hold : List Piece → List ℕ → Type 0
-Hold [] text = text ≡ []
-Hold (star ∷ ps) text = (before : List ℕ) × (after : List ℕ) × (text ≡ before ++ after) × Hold ps after
-Hold (any ∷ ps) text = (b : ℕ) × (rest : List ℕ) × (text ≡ b ∷ rest) × Hold ps rest
-Hold (set c ∷ ps) text = (b : ℕ) × (rest : List ℕ) × (text ≡ b ∷ rest) × IsTrue (in_class b c) × Hold ps rest
-Hold (plain x ∷ ps) text = (rest : List ℕ) × (text ≡ x ∷ rest) × Hold ps rest
+abbrev pub Matches : List Piece → List ℕ → Type 0
+Matches [] text = text ≡ []
+Matches (star ∷ ps) text = (before : List ℕ) × (after : List ℕ) × (text ≡ before ++ after) × Matches ps after
+Matches (any ∷ ps) text = (b : ℕ) × (rest : List ℕ) × (text ≡ b ∷ rest) × Matches ps rest
+Matches (set c ∷ ps) text = (b : ℕ) × (rest : List ℕ) × (text ≡ b ∷ rest) × IsTrue (in_class b c) × Matches ps rest
+Matches (plain x ∷ ps) text = (rest : List ℕ) × (text ≡ x ∷ rest) × Matches ps rest
 
 -- the pattern holds for the text
 abbrev pub Glob : List ℕ → List ℕ → Type 0
-Glob pattern text = Hold (pieces pattern) text
+Glob pattern text = Matches (pieces pattern) text
 
 -- some suffix passes
 abbrev pub some_suffix : (List ℕ → Bool) → List ℕ → Bool
@@ -72,15 +72,15 @@ is_star any = false
 is_star (set c) = false
 is_star (plain x) = false
 
--- `Hold` as a function, for definitions that ask it
-unfoldable pub held : List Piece → List ℕ → Bool
-held [] [] = true
-held [] (b ∷ rest) = false
-held (p ∷ ps) text = if is_star p then some_suffix (held ps) text else after_first p (held ps) text
+-- `Matches` as a function, for definitions that ask it
+unfoldable pub is_match : List Piece → List ℕ → Bool
+is_match [] [] = true
+is_match [] (b ∷ rest) = false
+is_match (p ∷ ps) text = if is_star p then some_suffix (is_match ps) text else after_first p (is_match ps) text
 
 -- `Glob` as a function
 abbrev pub glob : List ℕ → List ℕ → Bool
-glob pattern text = held (pieces pattern) text
+glob pattern text = is_match (pieces pattern) text
 
 -- The piece at a place of a pattern. No public contract cites it.
 abbrev pub piece_at : List ℕ → ℕ → Piece
@@ -91,9 +91,9 @@ abbrev pub taken_by : Piece → ℕ → Option ℕ
 taken_by p b = if takes p b then Some (more p + 1) else None
 
 -- The pattern from one place on holds for the text from another place on. No public contract cites it.
-abbrev pub HoldAt : List ℕ → List ℕ → ℕ → ℕ → Type 0
-HoldAt pattern text p t = Glob (drop p pattern) (drop t text)
+abbrev pub MatchesAt : List ℕ → List ℕ → ℕ → ℕ → Type 0
+MatchesAt pattern text p t = Glob (drop p pattern) (drop t text)
 
 -- The same from a later place of the text on. No public contract cites it.
-abbrev pub HoldLater : List ℕ → List ℕ → ℕ → ℕ → Type 0
-HoldLater pattern text p t = (u : ℕ) × (t ≤ u) × HoldAt pattern text p u
+abbrev pub MatchesLater : List ℕ → List ℕ → ℕ → ℕ → Type 0
+MatchesLater pattern text p t = (u : ℕ) × (t ≤ u) × MatchesAt pattern text p u

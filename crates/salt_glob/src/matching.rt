@@ -65,8 +65,8 @@ fn are_stars(pattern: &Folded, from: usize) -> bool
 fn next_start(pattern: &Folded, text: &Folded, after: usize, from: usize) -> Option<usize>
     requires after { after < length pattern.now }
     requires from { from ≤ length text.now }
-    ensures some { IfSome result (λ n. (from ≤ n) × (n ≤ length text.now) × ((u : ℕ) → from ≤ u → u < n → spec.HoldAt pattern.now text.now after u → ⊥)) }
-    ensures none { IfNone result ((u : ℕ) → from ≤ u → spec.HoldAt pattern.now text.now after u → ⊥) }
+    ensures some { IfSome result (λ n. (from ≤ n) × (n ≤ length text.now) × ((u : ℕ) → from ≤ u → u < n → spec.MatchesAt pattern.now text.now after u → ⊥)) }
+    ensures none { IfNone result ((u : ℕ) → from ≤ u → spec.MatchesAt pattern.now text.now after u → ⊥) }
 {
     let byte = pattern.at(after);
     if byte == b'*' {
@@ -93,7 +93,7 @@ fn after_star(pattern: &Folded, text: &Folded, last: usize, after: usize, from: 
     requires from { from ≤ length text.now }
     requires bound { last ≤ length pattern.now }
     requires closes { (k : ℕ) → list_any (λ b. b == 93) (drop k pattern.now) ≡ nat_lt k last }
-    ensures { IsTrue result ↔ spec.HoldLater pattern.now text.now after from }
+    ensures { IsTrue result ↔ spec.MatchesLater pattern.now text.now after from }
 {
     if after == pattern.len() {
         return true;

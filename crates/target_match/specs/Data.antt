@@ -37,7 +37,7 @@ meets_layer (Value-F.Map pairs) ps = map_meets pairs ps
 abbrev pub meets : Value → Test
 meets = fold-Value Test meets_layer
 
--- each pair with whether its value meets parts
+-- Each pair with whether its value meets parts. No public contract cites it.
 abbrev pub told_pairs : List (List ℕ × Value) → List (List ℕ × Test)
 told_pairs pairs = map (λ p. (p.0, meets p.1)) pairs
 
@@ -63,6 +63,6 @@ reached_layer test (Value-F.Map pairs) ps = map_reached test pairs ps
 abbrev pub reached : (List ℕ → Bool) → Value → Test
 reached test = fold-Value Test (reached_layer test)
 
--- each pair with whether a path from its value on reaches such a text
+-- Each pair with whether a path from its value on reaches such a text. No public contract cites it.
 abbrev pub reached_pairs : (List ℕ → Bool) → List (List ℕ × Value) → List (List ℕ × Test)
 reached_pairs test pairs = map (λ p. (p.0, reached test p.1)) pairs

@@ -23,6 +23,6 @@ starts_by (Some (re, names)) text = begins (find_str re.value text 0)
 abbrev pub starts : List ℕ → List ℕ → Bool
 starts pattern text = starts_by (read default_config (chars pattern)) text
 
--- what compiling gives
+-- What compiling gives. No public contract cites it.
 abbrev pub IsCompiled : Regex → Type 0
 IsCompiled r = (regex_config r ≡ default_config) × IsReadFromSource r

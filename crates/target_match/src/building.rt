@@ -25,7 +25,7 @@ fn count(leaves: &mut u32) -> u32
 #[cycle(ready)]
 pub fn ready(alloc: Global, tree: &Target, leaves: &mut u32) -> Result<Ready, BuildFault>
     ensures ok { IfOk result (IsMadeOf tree.now leaves.old leaves.new) }
-    ensures bad { IfErr result (IsFaultOf (patterns tree.now) leaves.old) }
+    ensures fault { IfErr result (IsFaultOf (patterns tree.now) leaves.old) }
 {
     match tree {
         Target::IdPcre(text) => {
@@ -80,7 +80,7 @@ fn both(
     leaves: &mut u32,
 ) -> Result<(Boxed<Ready>, Boxed<Ready>), BuildFault>
     ensures ok { IfOk result (λ r. AreMadeOf left.now right.now leaves.old leaves.new r.0 r.1) }
-    ensures bad { IfErr result (IsFaultOf (patterns left.now ++ patterns right.now) leaves.old) }
+    ensures fault { IfErr result (IsFaultOf (patterns left.now ++ patterns right.now) leaves.old) }
 {
     let left = Boxed::new(alloc, ready(alloc, left, leaves)?)?;
     let right = Boxed::new(alloc, ready(alloc, right, leaves)?)?;

@@ -21,7 +21,7 @@ pub fn holds<'m>(
     grains: &[(Text, Value)],
     pillar: &[(Text, Value)],
 ) -> Result<bool, AllocError>
-    ensures value { IfOk result (λ b. b ≡ holds (target_of ready.now) id.now grains.now pillar.now) }
+    ensures ok { IfOk result (λ b. b ≡ holds (target_of ready.now) id.now grains.now pillar.now) }
     ensures searches { Keeps (patterns (target_of ready.now)) searches.old.items searches.new.items }
     ensures memory { IsTrue (is_by_id (target_of ready.now)) → IsOk result }
 {

@@ -38,9 +38,9 @@ impl Model for IdPattern {
 
 impl IdPattern {
     pub fn new(alloc: Global, text: &Text, leaf: u32) -> Result<IdPattern, BuildFault>
-        ensures value { IfOk result (λ p. p ≡ text.now) }
+        ensures ok { IfOk result (λ p. p ≡ text.now) }
         ensures readable { IfOk result (λ _. IsReadable text.now) }
-        ensures unreadable { IfErr result (IsRefusalOf text.now leaf) }
+        ensures fault { IfErr result (IsRefusalOf text.now leaf) }
     {
         let regex = compile(alloc, text.as_str(), leaf)?;
         Ok(IdPattern { regex })
@@ -53,7 +53,7 @@ impl IdPattern {
         searches: &mut Vec<Search<'m>>,
         id: &str,
     ) -> Result<bool, AllocError>
-        ensures value { IfOk result (λ b. b ≡ starts self.now id.now) }
+        ensures ok { IfOk result (λ b. b ≡ starts self.now id.now) }
         ensures searches { Keeps (Some self.now ∷ []) searches.old.items searches.new.items }
     {
         let place = made(alloc, searches, &self.regex)?;
@@ -86,9 +86,9 @@ impl Model for DataPattern {
 
 impl DataPattern {
     pub fn new(alloc: Global, text: &Text, leaf: u32) -> Result<DataPattern, BuildFault>
-        ensures value { IfOk result (λ p. p ≡ text.now) }
+        ensures ok { IfOk result (λ p. p ≡ text.now) }
         ensures readable { IfOk result (λ _. IsReadable (pattern_of (parts text.now))) }
-        ensures unreadable { IfErr result (IsRefusalOf (pattern_of (parts text.now)) leaf) }
+        ensures fault { IfErr result (IsRefusalOf (pattern_of (parts text.now)) leaf) }
     {
         let text = text.copy()?;
         let split = path_and_pattern(alloc, text.as_str())?;
@@ -104,7 +104,7 @@ impl DataPattern {
         searches: &mut Vec<Search<'m>>,
         fields: &[(Text, Value)],
     ) -> Result<bool, AllocError>
-        ensures value { IfOk result (λ b. b ≡ pattern_holds self.now fields.now) }
+        ensures ok { IfOk result (λ b. b ≡ pattern_holds self.now fields.now) }
         ensures searches { Keeps (Some (pattern_of (parts self.now)) ∷ []) searches.old.items searches.new.items }
     {
         let place = made(alloc, searches, &self.regex)?;

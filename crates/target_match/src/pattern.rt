@@ -10,10 +10,10 @@ use std::alloc::Global;
 
 /// Compiles the pattern of a leaf.
 pub fn compile(alloc: Global, pattern: &str, leaf: u32) -> Result<Regex, BuildFault>
-    ensures source { IfOk result (λ r. regex_source r ≡ pattern.now) }
+    ensures ok { IfOk result (λ r. regex_source r ≡ pattern.now) }
     ensures compiled { IfOk result IsCompiled }
     ensures readable { IfOk result (λ _. IsReadable pattern.now) }
-    ensures unreadable { IfErr result (IsRefusalOf pattern.now leaf) }
+    ensures fault { IfErr result (IsRefusalOf pattern.now leaf) }
 {
     match Regex::new(alloc, pattern) {
         Ok(regex) => Ok(regex),

@@ -23,7 +23,7 @@ pub fn reached(
 ) -> Result<bool, AllocError>
     requires compiled { IsCompiled pattern.now }
     requires same { matcher_pattern matcher.old ≡ regex_pattern pattern.now }
-    ensures value { IfOk result (λ b. b ≡ reached (starts (regex_source pattern.now)) value.now path.now) }
+    ensures ok { IfOk result (λ b. b ≡ reached (starts (regex_source pattern.now)) value.now path.now) }
     ensures kept { matcher_pattern matcher.new ≡ matcher_pattern matcher.old }
 {
     match value {
@@ -61,7 +61,7 @@ fn any_reached(
 ) -> Result<bool, AllocError>
     requires compiled { IsCompiled pattern.now }
     requires same { matcher_pattern matcher.old ≡ regex_pattern pattern.now }
-    ensures value { IfOk result (λ b. b ≡ list_any (λ v. reached (starts (regex_source pattern.now)) v path.now) items.now) }
+    ensures ok { IfOk result (λ b. b ≡ list_any (λ v. reached (starts (regex_source pattern.now)) v path.now) items.now) }
     ensures kept { matcher_pattern matcher.new ≡ matcher_pattern matcher.old }
 {
     for item in items {
@@ -83,7 +83,7 @@ pub fn pairs_reached(
 ) -> Result<bool, AllocError>
     requires compiled { IsCompiled pattern.now }
     requires same { matcher_pattern matcher.old ≡ regex_pattern pattern.now }
-    ensures value { IfOk result (λ b. b ≡ map_reached (starts (regex_source pattern.now)) (reached_pairs (starts (regex_source pattern.now)) pairs.now) path.now) }
+    ensures ok { IfOk result (λ b. b ≡ map_reached (starts (regex_source pattern.now)) (reached_pairs (starts (regex_source pattern.now)) pairs.now) path.now) }
     ensures kept { matcher_pattern matcher.new ≡ matcher_pattern matcher.old }
 {
     match path {
@@ -103,7 +103,7 @@ fn child_reached(
 ) -> Result<bool, AllocError>
     requires compiled { IsCompiled pattern.now }
     requires same { matcher_pattern matcher.old ≡ regex_pattern pattern.now }
-    ensures value { IfOk result (λ b. b ≡ child_passes (under key.now (reached_pairs (starts (regex_source pattern.now)) pairs.now)) path.now) }
+    ensures ok { IfOk result (λ b. b ≡ child_passes (under key.now (reached_pairs (starts (regex_source pattern.now)) pairs.now)) path.now) }
     ensures kept { matcher_pattern matcher.new ≡ matcher_pattern matcher.old }
 {
     for (name, child) in pairs {

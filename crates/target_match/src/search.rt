@@ -64,7 +64,7 @@ impl<'m> Search<'m> {
         fields: &[(Text, Value)],
         path: &[Text],
     ) -> Result<bool, AllocError>
-        ensures value { IfOk result (λ b. b ≡ map_reached (starts self.old) (reached_pairs (starts self.old) fields.now) path.now) }
+        ensures ok { IfOk result (λ b. b ≡ map_reached (starts self.old) (reached_pairs (starts self.old) fields.now) path.now) }
         ensures kept { self.new ≡ self.old }
     {
         pairs_reached(alloc, &mut self.matcher, self.regex, fields, path)

@@ -9,7 +9,8 @@ use Rattle.target_tree.specs.declared.token.Token.{Token}
 use Rattle.target_tree.specs.declared.token.Token.TheVariants.{AndWord, OrWord, NotWord, OpenWord, CloseWord, Leaf, Pattern, Nodegroup, NoLetter, NoLeaf}
 use Rattle.target_tree.specs.Words.{tokens_of}
 use Rattle.target_tree.specs.Nodegroups.{text_named, is_among}
-use Rattle.target_tree.specs.Reading.{State, Answer, operand_word, operator_word, closing, closed, resumed, found, one_word, all_words, text_end, whole_text, group_word, ◌>>=◌}
+use Rattle.salt_value.specs.Readers.{◌>>=◌}
+use Rattle.target_tree.specs.Reading.{State, Answer, operand_word, operator_word, closing, closed, resumed, found, one_word, all_words, text_end, whole_text, group_word}
 use Rattle.target_tree.specs.declared.reader.Part.{Part}
 use Rattle.target_tree.specs.declared.reader.Reader.{Reader as Machine}
 use Rattle.target_tree.specs.Machine.{counts_of, Step, level_of, machine_operand, machine_operator, machine_closing, machine_by, machine_closed, machine_word, machine_all, machine_end, machine_end_by, machine_text, machine_begun, machine_found, machine_resumed, machine_group, state_of, is_due}

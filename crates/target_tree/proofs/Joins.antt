@@ -10,7 +10,8 @@ use Rattle.target_tree.specs.declared.reader.Ended.{Ended}
 use Rattle.target_tree.specs.declared.reader.Part.{Part}
 use Rattle.target_tree.specs.declared.fault.TargetFault.{TargetFault}
 use Rattle.target_tree.specs.declared.fault.TargetFault.TheVariants.{NoMemory, Empty, TooLong}
-use Rattle.target_tree.specs.Reading.{Counts, text_end, group_word, ◌>>=◌, IsFaultAsRead}
+use Rattle.salt_value.specs.Readers.{◌>>=◌}
+use Rattle.target_tree.specs.Reading.{Counts, text_end, group_word, IsFaultAsRead}
 use Rattle.target_tree.specs.Machine.{joined_or, Gives, counts_of, state_of, machine_all, machine_group, machine_begun, machine_end, machine_target, tree_of, machine_tree}
 use Rattle.target_tree.specs.Targets.{IsTarget, IsReadUnlessLimit, IsReadUnlessRefused, IsAsRead, reading, target_words, sole_word}
 use Rattle.target_tree.specs.declared.kind.Kind.TheVariants.{Compound}

@@ -11,7 +11,7 @@ use Rattle.target_tree.specs.declared.token.Token.TheVariants.{AndWord, OrWord, 
 use Rattle.target_tree.specs.Words.{tokens_of}
 use Rattle.target_tree.specs.Nodegroups.{text_named, is_among}
 use Rattle.target_tree.specs.Grammar.{operand, conjunction, compound, Stands, one_leaf, one_pattern, one_group, negated, in_parens, one_operand, joined_by_and, one_conjunction, joined_by_or}
-use Rattle.target_tree.specs.Reading.{◌>>=◌}
+use Rattle.salt_value.specs.Readers.{◌>>=◌}
 use Rattle.target_tree.specs.declared.reader.Part.{Part}
 use Rattle.target_tree.specs.declared.reader.Reader.{Reader as Machine}
 use Rattle.target_tree.specs.declared.reader.Ended.{Ended}

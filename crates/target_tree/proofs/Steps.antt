@@ -15,7 +15,8 @@ use Rattle.target_tree.specs.declared.fault.TargetFault.{TargetFault}
 use Rattle.target_tree.specs.declared.fault.TargetFault.TheVariants.{NoMemory, Empty, TooLong, TooDeep, TooManyWords, TooManyPatterns, Circle}
 use Rattle.target_tree.specs.Words.{tokens_of}
 use Rattle.target_tree.specs.Nodegroups.{text_named, is_among}
-use Rattle.target_tree.specs.Reading.{◌>>=◌, IsFaultAsRead}
+use Rattle.salt_value.specs.Readers.{◌>>=◌}
+use Rattle.target_tree.specs.Reading.{IsFaultAsRead}
 use Rattle.target_tree.specs.Machine.{Step, machine_operator, machine_closing, machine_operand, machine_by, machine_word, machine_all, machine_end, machine_end_by, machine_closed, machine_resumed, machine_group, machine_found, machine_text, machine_begun, no_group}
 use Rattle.target_tree.specs.Going.{Goes, going, names_of, within, entered_by, opened_by, opened}
 

@@ -8,10 +8,11 @@ use Rattle.target_tree.specs.declared.reader.Reader.{Reader as Machine}
 use Rattle.target_tree.specs.declared.run.Outer.{Outer}
 use Rattle.target_tree.specs.declared.fault.TargetFault.{TargetFault}
 use Rattle.target_tree.specs.declared.fault.TargetFault.TheVariants.{Empty, TooLong, Word, TooManyWords, UnknownGroup, Circle}
-use Rattle.target_tree.specs.Limits.{most_text_bytes, most_words}
+use Rattle.target_tree.specs.Limits.{most_text_bytes, most_words, most_texts}
 use Rattle.target_tree.specs.Words.{tokens_of}
 use Rattle.target_tree.specs.Nodegroups.{text_named, is_among}
-use Rattle.target_tree.specs.Reading.{◌>>=◌, IsFaultAsRead}
+use Rattle.salt_value.specs.Readers.{◌>>=◌}
+use Rattle.target_tree.specs.Reading.{IsFaultAsRead}
 use Rattle.target_tree.specs.Machine.{machine_all, machine_end, machine_resumed, machine_group}
 
 -- the names of the nodegroups that are being expanded
@@ -57,12 +58,12 @@ GivesBy view (Err e) to = IsFaultAsRead e to
 
 -- A step from these texts to those: what is left then gives what was left before.
 pub record Goes (groups : List Group) (old new : List Outer) (reader : Machine) (words : List Token) (next : Machine) (rest : List ℕ) : Type 0 where
-  pub same : going (257 - length old) groups old words reader ≡ going (257 - length new) groups new (tokens_of rest) next
+  pub same : going (most_texts - length old) groups old words reader ≡ going (most_texts - length new) groups new (tokens_of rest) next
   pub one_word : next.at ≡ reader.at + 1
-  pub counted : next.at ≤ 256
+  pub counted : next.at ≤ most_words
   pub nested : length new ≤ length old + 1
 
 -- A step goes on so, or its fault is that of what is left, unless memory ran out.
 abbrev pub GoesOn : List Group → List Outer → List Outer → Machine → List Token → Result (Machine × Bor (List ℕ)) TargetFault → Type 0
 GoesOn groups old new reader words (Ok x) = Goes groups old new reader words x.0 x.1.now
-GoesOn groups old new reader words (Err e) = IsFaultAsRead e (going (257 - length old) groups old words reader)
+GoesOn groups old new reader words (Err e) = IsFaultAsRead e (going (most_texts - length old) groups old words reader)

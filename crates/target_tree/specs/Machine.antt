@@ -9,14 +9,15 @@ use Rattle.target_tree.specs.declared.fault.TargetFault.TheVariants.{Empty, TooL
 use Rattle.target_tree.specs.declared.token.Token.{Token}
 use Rattle.target_tree.specs.declared.token.Token.TheVariants.{AndWord, OrWord, NotWord, OpenWord, CloseWord, Leaf, Pattern, Nodegroup, NoLetter, NoLeaf}
 use Rattle.target_tree.specs.Words.{tokens_of}
-use Rattle.target_tree.specs.Limits.{most_text_bytes, most_words, most_open, most_patterns}
+use Rattle.target_tree.specs.Limits.{most_text_bytes, most_words, most_texts, most_open, most_patterns}
 use Rattle.target_tree.specs.Nodegroups.{text_named, is_among}
 use Rattle.target_tree.specs.declared.reader.Nest.{Nest}
 use Rattle.target_tree.specs.declared.reader.Part.{Part}
 use Rattle.target_tree.specs.declared.reader.Reader.{Reader as Machine}
 use Rattle.target_tree.specs.declared.reader.Ended.{Ended}
 use Rattle.target_tree.specs.declared.kind.Kind.{Kind}
-use Rattle.target_tree.specs.Reading.{Nest as Level, State, Counts, IsFaultAsRead, ◌>>=◌}
+use Rattle.salt_value.specs.Readers.{◌>>=◌}
+use Rattle.target_tree.specs.Reading.{Nest as Level, State, Counts, IsFaultAsRead}
 use Rattle.target_tree.specs.Targets.{target_words}
 
 -- how far a text has been read with its trees, or the first fault
@@ -184,7 +185,7 @@ abbrev pub machine_target : Kind → List Group → List ℕ → Result Ended Ta
 machine_target kind groups text =
     if nat_le (length (target_words kind text)) 0 then Err Empty
     else if nat_lt most_text_bytes (length text) then Err TooLong
-    else machine_all (machine_group (most_words + 1) groups []) (target_words kind text) (machine_begun 0 0 0) >>= machine_end
+    else machine_all (machine_group most_texts groups []) (target_words kind text) (machine_begun 0 0 0) >>= machine_end
 
 -- the tree at the end
 abbrev pub tree_of : Ended → Result Target TargetFault

@@ -16,7 +16,7 @@ text_named groups name = lookup (bytes_eq name) groups
 abbrev pub is_named : List Group → List ℕ → Bool
 is_named groups name = is_some (text_named groups name)
 
--- each name is an id
+-- Each name is an id. No public contract cites it.
 abbrev pub AreIds : List Group → Type 0
 AreIds groups = AllByRecursion IsId (map (λ group. group.0) groups)
 

@@ -1,6 +1,7 @@
 -- The faults of a compound: a fold over its words that knows no tree.
 use Rattle.std.specs.Prelude.{◌≡◌, ℕ, zero, suc, ◌+◌, Bool, true, false, nat_le, nat_lt, List, [], ◌∷◌, length, if◌then◌else◌, Option, None, Some, Result, Ok, Err}
 use Rattle.target_tree.specs.Nodegroups.{Group}
+use Rattle.salt_value.specs.Readers.{◌>>=◌}
 use Rattle.target_tree.specs.declared.fault.TargetFault.{TargetFault}
 use Rattle.target_tree.specs.declared.fault.TargetFault.TheVariants.{NoMemory, Empty, TooLong, Word, Unclosed, TooDeep, TooManyWords, TooManyPatterns, UnknownGroup, Circle, BadLetter}
 use Rattle.target_tree.specs.declared.token.Token.{Token}
@@ -33,12 +34,6 @@ Answer = Result State TargetFault
 pub record Counts : Type 0 where
   pub at : ℕ
   pub patterns : ℕ
-
--- and then, unless there is a fault
-infixl 10 ◌>>=◌
-abbrev pub ◌>>=◌ : {A B : Type 0} → Result A TargetFault → (A → Result B TargetFault) → Result B TargetFault
-(Ok x) >>= f = f x
-(Err e) >>= f = Err e
 
 -- A fault that was answered is that of this reading, unless memory ran out.
 abbrev pub IsFaultAsRead : {A : Type 0} → TargetFault → Result A TargetFault → Type 0
@@ -138,7 +133,7 @@ found group names name s (Some text) =
     else whole_text (group (name ∷ names)) text (begun s.nest.deep (s.at + 1) s.patterns) >>= resumed s
 
 -- The words of a nodegroup's text are read where its word stands.
--- Each text within a text follows a word, so no more than 256 lie in one another.
+-- Each text within a text follows a word, so no more than `most_texts` lie in one another.
 unfoldable pub group_word : ℕ → List Group → List (List ℕ) → List ℕ → State → Answer
 group_word zero groups names name s = Err TooManyWords
 group_word (suc depth) groups names name s = found (group_word depth groups) names name s (text_named groups name)

@@ -9,10 +9,11 @@ use Rattle.target_tree.specs.declared.fault.TargetFault.{TargetFault}
 use Rattle.target_tree.specs.declared.fault.TargetFault.TheVariants.{NoMemory, Empty, TooLong, TooDeep, TooManyWords, TooManyPatterns}
 use Rattle.target_tree.specs.declared.token.Token.{Token}
 use Rattle.target_tree.specs.declared.token.Token.TheVariants.{Leaf, Pattern, Nodegroup as GroupWord, NoLeaf}
-use Rattle.target_tree.specs.Limits.{most_text_bytes, most_words}
+use Rattle.target_tree.specs.Limits.{most_text_bytes, most_texts}
 use Rattle.target_tree.specs.Words.{id_list, tokens_of}
 use Rattle.target_tree.specs.Grammar.{compound, Stands}
-use Rattle.target_tree.specs.Reading.{Counts, IsFaultAsRead, text_end, begun, all_words, group_word, ◌>>=◌}
+use Rattle.salt_value.specs.Readers.{◌>>=◌}
+use Rattle.target_tree.specs.Reading.{Counts, IsFaultAsRead, text_end, begun, all_words, group_word}
 
 -- the one word that the text of another kind than compound is
 abbrev pub sole_word : Kind → List ℕ → Token
@@ -37,7 +38,7 @@ abbrev pub reading : Kind → List Group → List ℕ → Result Counts TargetFa
 reading kind groups text =
     if nat_le (length (target_words kind text)) 0 then Err Empty
     else if nat_lt most_text_bytes (length text) then Err TooLong
-    else all_words (group_word (most_words + 1) groups []) (target_words kind text) (begun 0 0 0) >>= text_end
+    else all_words (group_word most_texts groups []) (target_words kind text) (begun 0 0 0) >>= text_end
 
 -- the text of this kind stands for this tree
 abbrev pub IsTarget : Kind → List Group → List ℕ → Target → Type 0

@@ -46,10 +46,10 @@ fn put_last(
     requires absent { text_named texts.old.entries name ≡ None }
     requires id { IsId name }
     requires ids { AreIds texts.old.entries }
-    ensures added { OnOk result (texts.new.entries ≡ texts.old.entries ++ (name, text) ∷ []) }
-    ensures unchanged { OnErr result (texts.new.entries ≡ texts.old.entries) }
-    ensures memory { IfErr result (λ fault. fault ≡ GroupFault.NoMemory) }
+    ensures ok { OnOk result (texts.new.entries ≡ texts.old.entries ++ (name, text) ∷ []) }
+    ensures err { OnErr result (texts.new.entries ≡ texts.old.entries) }
     ensures ids { AreIds texts.new.entries }
+    ensures memory { IfErr result (λ fault. fault ≡ GroupFault.NoMemory) }
 {
     match texts.insert(name, text) {
         Ok(_) => Ok(()),

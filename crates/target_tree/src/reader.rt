@@ -1,5 +1,6 @@
 //! The reading of one text, word by word: what stands before its last operand, in each parenthesis that is open.
 ghost use Rattle.std.specs.Prelude.{◌≡◌, ◌-◌, ◌<◌, Ok, IfOk};
+ghost use Rattle.target_tree.specs.Limits.{most_words};
 ghost use Rattle.target_tree.specs.Machine.{Gives, fresh, mended, joined_and, joined_or, negations, machine_begun, machine_operand, machine_operator, machine_closing, machine_word, machine_end, machine_resumed, no_group};
 
 use crate::limits::{MOST_OPEN, MOST_PATTERNS, MOST_WORDS};
@@ -149,7 +150,7 @@ impl Reader {
 impl Reader {
     /// After a word where an operand is due, and which is no nodegroup's.
     fn operand(self, alloc: Global, word: Token) -> Result<Reader, TargetFault>
-        requires { self.at < 256 }
+        requires { self.at < most_words }
         ensures { Gives result (machine_operand no_group word self) }
     {
         let at = self.at;
@@ -164,7 +165,7 @@ impl Reader {
     }
 
     fn deepen(self) -> Result<Reader, TargetFault>
-        requires { self.at < 256 }
+        requires { self.at < most_words }
         ensures { Gives result (machine_operand no_group Token.NotWord self) }
     {
         let mut reader = self;
@@ -177,7 +178,7 @@ impl Reader {
     }
 
     fn nest(self) -> Result<Reader, TargetFault>
-        requires { self.at < 256 }
+        requires { self.at < most_words }
         ensures { Gives result (machine_operand no_group Token.OpenWord self) }
     {
         let Reader {
@@ -207,7 +208,7 @@ impl Reader {
     }
 
     fn leaf(self, alloc: Global, tree: Boxed<Target>) -> Result<Reader, TargetFault>
-        requires { self.at < 256 }
+        requires { self.at < most_words }
         ensures { Gives result (machine_operand no_group (Token.Leaf tree) self) }
     {
         let mut reader = self;
@@ -216,7 +217,7 @@ impl Reader {
     }
 
     fn pattern(self, alloc: Global, tree: Boxed<Target>) -> Result<Reader, TargetFault>
-        requires { self.at < 256 }
+        requires { self.at < most_words }
         ensures { Gives result (machine_operand no_group (Token.Pattern tree) self) }
     {
         let mut reader = self;
@@ -235,7 +236,7 @@ impl Reader {
         last: Boxed<Target>,
         word: Token,
     ) -> Result<Reader, TargetFault>
-        requires { self.at < 256 }
+        requires { self.at < most_words }
         ensures { Gives result (machine_operator last word self) }
     {
         let at = self.at;
@@ -248,7 +249,7 @@ impl Reader {
     }
 
     fn after_and(self, last: Boxed<Target>) -> Result<Reader, TargetFault>
-        requires { self.at < 256 }
+        requires { self.at < most_words }
         ensures { Gives result (machine_operator last Token.AndWord self) }
     {
         let Reader {
@@ -277,7 +278,7 @@ impl Reader {
     }
 
     fn after_or(self, alloc: Global, last: Boxed<Target>) -> Result<Reader, TargetFault>
-        requires { self.at < 256 }
+        requires { self.at < most_words }
         ensures { Gives result (machine_operator last Token.OrWord self) }
     {
         let Reader {
@@ -307,7 +308,7 @@ impl Reader {
     }
 
     fn close(self, alloc: Global, last: Boxed<Target>) -> Result<Reader, TargetFault>
-        requires { self.at < 256 }
+        requires { self.at < most_words }
         ensures { Gives result (machine_closing last self.parts self) }
     {
         let Reader {

@@ -1,5 +1,6 @@
 //! The reading of a text and of those that its nodegroups stand for.
 ghost use Rattle.std.specs.Prelude.{◌≡◌, ◌+◌, ◌-◌, ◌≤◌, ◌<◌, ◌∷◌, Ok, IfOk, IfErr, OnOk, length};
+ghost use Rattle.target_tree.specs.Limits.{most_words, most_texts};
 ghost use Rattle.target_tree.specs.Words.{tokens_of, token};
 ghost use Rattle.target_tree.specs.Nodegroups.{is_among};
 ghost use Rattle.target_tree.specs.Machine.{Gives, machine_begun};
@@ -90,9 +91,9 @@ fn begin_group<'a>(
     outers: &mut Stack<Outer<'a>>,
     outer: Outer<'a>,
 ) -> Result<Reader, TargetFault>
-    requires { outer.reader.at < 256 }
-    ensures pushed { OnOk result (outers.new ≡ outer.entry ∷ outers.old) }
-    ensures inner { IfOk result (λ x. x ≡ machine_begun outer.entry.reader.part.nest.deep (outer.entry.reader.at + 1) outer.entry.reader.patterns) }
+    requires { outer.reader.at < most_words }
+    ensures ok { IfOk result (λ x. x ≡ machine_begun outer.entry.reader.part.nest.deep (outer.entry.reader.at + 1) outer.entry.reader.patterns) }
+    ensures outers { OnOk result (outers.new ≡ outer.entry ∷ outers.old) }
     ensures memory { IfErr result (λ e. e ≡ TargetFault.NoMemory) }
 {
     let inner = Reader::begin(
@@ -112,7 +113,7 @@ fn group_word<'a>(
     outers: &mut Stack<Outer<'a>>,
     outer: Outer<'a>,
 ) -> Result<(Reader, &'a str), TargetFault>
-    requires { (length outers.old ≤ outer.reader.at) × (outer.reader.at ≤ 256) }
+    requires { (length outers.old ≤ outer.reader.at) × (outer.reader.at ≤ most_words) }
     ensures { GoesOn groups.entry.now outers.old outers.new outer.entry.reader (Token.Nodegroup outer.entry.name ∷ tokens_of outer.entry.rest.now) result }
 {
     let text = open_group(groups, outers, &outer.reader, &outer.name)?;
@@ -129,7 +130,7 @@ pub fn one_word<'a>(
     word: Token,
     more: &'a str,
 ) -> Result<(Reader, &'a str), TargetFault>
-    requires { (length outers.old ≤ reader.at) × (reader.at ≤ 256) }
+    requires { (length outers.old ≤ reader.at) × (reader.at ≤ most_words) }
     ensures { GoesOn groups.entry.now outers.old outers.new reader (word ∷ tokens_of more.entry.now) result }
 {
     match word {
@@ -156,8 +157,8 @@ pub fn run<'a>(
     reader: Reader,
     rest: &'a str,
 ) -> Result<Target, TargetFault>
-    requires { (length outers ≤ reader.at) × (reader.at ≤ 256) }
-    ensures { Gives result (going (257 - length outers.entry) groups.entry.now outers.entry (tokens_of rest.entry.now) reader) }
+    requires { (length outers ≤ reader.at) × (reader.at ≤ most_words) }
+    ensures { Gives result (going (most_texts - length outers.entry) groups.entry.now outers.entry (tokens_of rest.entry.now) reader) }
 {
     let mut outers = outers;
     let mut reader = reader;

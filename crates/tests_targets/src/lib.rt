@@ -10,6 +10,8 @@ mod groups;
 #[cfg(test)]
 mod kinds;
 #[cfg(test)]
+mod laws;
+#[cfg(test)]
 mod matching;
 #[cfg(test)]
 mod said;

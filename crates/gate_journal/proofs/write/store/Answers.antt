@@ -25,8 +25,8 @@ returns-clause-any_moment g c = λ told limit payloads payload next.
     (body_image c.args.part limit c.args.len payloads payload c.args.body.now old next)
     (gate_image c.args.part limit c.args.len payloads payload c.args.body.now old next mid (c.in_ok-write_through.ensures.ok told) (c.write_through.ensures.others told))
 
-pub returns-clause-stored : goal.returns-clause-stored
-returns-clause-stored g c = λ told.
+pub returns-clause-ok : goal.returns-clause-ok
+returns-clause-ok g c = λ told.
     let old = g.D.Disk.state c.args.disk.now in
     let mid = g.D.Disk.state c.write_through.new.disk in
     let new = g.D.Disk.state c.write_through-2.new.disk in

@@ -27,8 +27,8 @@ returns-clause-any_moment g c = λ told.
     (short_image c.args.part 0 (length c.header_but_one.result) old old (λ other ne. refl) (c.requires.short told) (omega (arith, ap length c.header_but_one.ensures)))
     (short_image c.args.part 0 1 old mid (c.write_through.ensures.others told) short (omega arith))
 
-pub returns-clause-made : goal.returns-clause-made
-returns-clause-made g c = λ told.
+pub returns-clause-ok : goal.returns-clause-ok
+returns-clause-ok g c = λ told.
     let old = part_of (g.D.Disk.state c.args.disk.now) c.args.part in
     let mid = part_of (g.D.Disk.state c.write_through.new.disk) c.args.part in
     let new = part_of (g.D.Disk.state c.write_through-2.new.disk) c.args.part in

@@ -12,84 +12,84 @@ use Rattle.target_match.proofs.Readied as R
 use Rattle.target_match.proofs.Keeping as K
 use Rattle.target_match.proofs.holding.+holds.Goals as goal
 
-pub returns-in-IdGlob-clause-value : goal.returns-in-IdGlob-clause-value
-returns-in-IdGlob-clause-value t c =
+pub returns-in-IdGlob-clause-ok : goal.returns-in-IdGlob-clause-ok
+returns-in-IdGlob-clause-ok t c =
     let a = c.args in
     c.glob.ensures.exact ∙ ap (λ x. glob x c.as_bytes-in-IdGlob.result.now) c.as_bytes.ensures ∙ ap (glob c.in-IdGlob.text) c.as_bytes-in-IdGlob.ensures.value
     ∙ sym (R.holds-IdGlob c.in-IdGlob.text a.id.now a.grains.now a.pillar.now) ∙ ap (λ x. holds (target_of x) a.id.now a.grains.now a.pillar.now) (sym c.in-IdGlob.is)
 
-pub returns-in-IdPcre-clause-value : goal.returns-in-IdPcre-clause-value
-returns-in-IdPcre-clause-value t c =
+pub returns-in-IdPcre-clause-ok : goal.returns-in-IdPcre-clause-ok
+returns-in-IdPcre-clause-ok t c =
     let a = c.args in
-    carried c.holds.result _ _ c.holds.ensures.value (ap (starts c.in-IdPcre.pattern) c.as_str.ensures.value
+    carried c.holds.result _ _ c.holds.ensures.ok (ap (starts c.in-IdPcre.pattern) c.as_str.ensures.value
     ∙ sym (R.holds-IdPcre c.in-IdPcre.pattern a.id.now a.grains.now a.pillar.now) ∙ ap (λ x. holds (target_of x) a.id.now a.grains.now a.pillar.now) (sym c.in-IdPcre.is))
 
-pub returns-in-IdList-clause-value : goal.returns-in-IdList-clause-value
-returns-in-IdList-clause-value t c =
+pub returns-in-IdList-clause-ok : goal.returns-in-IdList-clause-ok
+returns-in-IdList-clause-ok t c =
     let a = c.args in
     c.contains.ensures ∙ ap (λ l. list_any (λ other. bytes_eq other c.as_bytes-in-IdList.result.now) l) c.as_slice.ensures
     ∙ ap (λ id. list_any (λ other. bytes_eq other id) c.in-IdList.ids) c.as_bytes-in-IdList.ensures.value
     ∙ sym (R.holds-IdList c.in-IdList.ids a.id.now a.grains.now a.pillar.now) ∙ ap (λ x. holds (target_of x) a.id.now a.grains.now a.pillar.now) (sym c.in-IdList.is)
 
-pub returns-in-GrainGlob-clause-value : goal.returns-in-GrainGlob-clause-value
-returns-in-GrainGlob-clause-value t c =
+pub returns-in-GrainGlob-clause-ok : goal.returns-in-GrainGlob-clause-ok
+returns-in-GrainGlob-clause-ok t c =
     let a = c.args in
     carried c.pairs_meet.result _ _ c.pairs_meet.ensures (ap (λ x. map_meets (told_pairs a.grains.now) (parts x)) c.as_str-in-GrainGlob.ensures.value
     ∙ sym (glob-holds c.in-GrainGlob.text a.grains.now)
     ∙ sym (R.holds-GrainGlob c.in-GrainGlob.text a.id.now a.grains.now a.pillar.now) ∙ ap (λ x. holds (target_of x) a.id.now a.grains.now a.pillar.now) (sym c.in-GrainGlob.is))
 
-pub returns-in-GrainPcre-clause-value : goal.returns-in-GrainPcre-clause-value
-returns-in-GrainPcre-clause-value t c =
+pub returns-in-GrainPcre-clause-ok : goal.returns-in-GrainPcre-clause-ok
+returns-in-GrainPcre-clause-ok t c =
     let a = c.args in
-    carried c.holds-in-GrainPcre.result _ _ c.holds-in-GrainPcre.ensures.value
+    carried c.holds-in-GrainPcre.result _ _ c.holds-in-GrainPcre.ensures.ok
     (sym (R.holds-GrainPcre c.in-GrainPcre.pattern a.id.now a.grains.now a.pillar.now) ∙ ap (λ x. holds (target_of x) a.id.now a.grains.now a.pillar.now) (sym c.in-GrainPcre.is))
 
-pub returns-in-PillarGlob-clause-value : goal.returns-in-PillarGlob-clause-value
-returns-in-PillarGlob-clause-value t c =
+pub returns-in-PillarGlob-clause-ok : goal.returns-in-PillarGlob-clause-ok
+returns-in-PillarGlob-clause-ok t c =
     let a = c.args in
     carried c.pairs_meet-in-PillarGlob.result _ _ c.pairs_meet-in-PillarGlob.ensures (ap (λ x. map_meets (told_pairs a.pillar.now) (parts x)) c.as_str-in-PillarGlob.ensures.value
     ∙ sym (glob-holds c.in-PillarGlob.text a.pillar.now)
     ∙ sym (R.holds-PillarGlob c.in-PillarGlob.text a.id.now a.grains.now a.pillar.now) ∙ ap (λ x. holds (target_of x) a.id.now a.grains.now a.pillar.now) (sym c.in-PillarGlob.is))
 
-pub returns-in-PillarPcre-clause-value : goal.returns-in-PillarPcre-clause-value
-returns-in-PillarPcre-clause-value t c =
+pub returns-in-PillarPcre-clause-ok : goal.returns-in-PillarPcre-clause-ok
+returns-in-PillarPcre-clause-ok t c =
     let a = c.args in
-    carried c.holds-in-PillarPcre.result _ _ c.holds-in-PillarPcre.ensures.value
+    carried c.holds-in-PillarPcre.result _ _ c.holds-in-PillarPcre.ensures.ok
     (sym (R.holds-PillarPcre c.in-PillarPcre.pattern a.id.now a.grains.now a.pillar.now) ∙ ap (λ x. holds (target_of x) a.id.now a.grains.now a.pillar.now) (sym c.in-PillarPcre.is))
 
-pub returns-in_ok-holds-in-Not-clause-value : goal.returns-in_ok-holds-in-Not-clause-value
-returns-in_ok-holds-in-Not-clause-value t c =
+pub returns-in_ok-holds-in-Not-clause-ok : goal.returns-in_ok-holds-in-Not-clause-ok
+returns-in_ok-holds-in-Not-clause-ok t c =
     let a = c.args in
-    ap not (c.in_ok-holds-in-Not.ensures.value ∙ ap (λ x. holds (target_of x) a.id.now a.grains.now a.pillar.now) c.get.ensures)
+    ap not (c.in_ok-holds-in-Not.ensures.ok ∙ ap (λ x. holds (target_of x) a.id.now a.grains.now a.pillar.now) c.get.ensures)
     ∙ sym (R.holds-Not c.in-Not.one a.id.now a.grains.now a.pillar.now) ∙ ap (λ x. holds (target_of x) a.id.now a.grains.now a.pillar.now) (sym c.in-Not.is)
 
-pub returns-then-not-branch-clause-value : goal.returns-then-not-branch-clause-value
-returns-then-not-branch-clause-value t c =
+pub returns-then-not-branch-clause-ok : goal.returns-then-not-branch-clause-ok
+returns-then-not-branch-clause-ok t c =
     let a = c.args in
-    let left = c.in_ok-holds-in-And.ensures.value ∙ ap (λ x. holds (target_of x) a.id.now a.grains.now a.pillar.now) c.get-in-And.ensures in
+    let left = c.in_ok-holds-in-And.ensures.ok ∙ ap (λ x. holds (target_of x) a.id.now a.grains.now a.pillar.now) c.get-in-And.ensures in
     R.and_fails _ _ _ left c.if-not-branch.true
     ∙ sym (R.holds-And c.in-And.left c.in-And.right a.id.now a.grains.now a.pillar.now) ∙ ap (λ x. holds (target_of x) a.id.now a.grains.now a.pillar.now) (sym c.in-And.is)
 
-pub returns-else-not-branch-clause-value : goal.returns-else-not-branch-clause-value
-returns-else-not-branch-clause-value t c =
+pub returns-else-not-branch-clause-ok : goal.returns-else-not-branch-clause-ok
+returns-else-not-branch-clause-ok t c =
     let a = c.args in
-    let left = c.in_ok-holds-in-And.ensures.value ∙ ap (λ x. holds (target_of x) a.id.now a.grains.now a.pillar.now) c.get-in-And.ensures in
-    carried c.holds-in-And-2.result _ _ c.holds-in-And-2.ensures.value (ap (λ x. holds (target_of x) a.id.now a.grains.now a.pillar.now) c.get-in-And-2.ensures
+    let left = c.in_ok-holds-in-And.ensures.ok ∙ ap (λ x. holds (target_of x) a.id.now a.grains.now a.pillar.now) c.get-in-And.ensures in
+    carried c.holds-in-And-2.result _ _ c.holds-in-And-2.ensures.ok (ap (λ x. holds (target_of x) a.id.now a.grains.now a.pillar.now) c.get-in-And-2.ensures
     ∙ R.and_rest _ _ _ left c.if-not-branch.false
     ∙ sym (R.holds-And c.in-And.left c.in-And.right a.id.now a.grains.now a.pillar.now) ∙ ap (λ x. holds (target_of x) a.id.now a.grains.now a.pillar.now) (sym c.in-And.is))
 
-pub returns-then-branch-clause-value : goal.returns-then-branch-clause-value
-returns-then-branch-clause-value t c =
+pub returns-then-branch-clause-ok : goal.returns-then-branch-clause-ok
+returns-then-branch-clause-ok t c =
     let a = c.args in
-    let left = c.in_ok-holds-in-Or.ensures.value ∙ ap (λ x. holds (target_of x) a.id.now a.grains.now a.pillar.now) c.get-in-Or.ensures in
+    let left = c.in_ok-holds-in-Or.ensures.ok ∙ ap (λ x. holds (target_of x) a.id.now a.grains.now a.pillar.now) c.get-in-Or.ensures in
     R.or_holds _ _ _ left c.if-branch.true
     ∙ sym (R.holds-Or c.in-Or.left c.in-Or.right a.id.now a.grains.now a.pillar.now) ∙ ap (λ x. holds (target_of x) a.id.now a.grains.now a.pillar.now) (sym c.in-Or.is)
 
-pub returns-else-branch-clause-value : goal.returns-else-branch-clause-value
-returns-else-branch-clause-value t c =
+pub returns-else-branch-clause-ok : goal.returns-else-branch-clause-ok
+returns-else-branch-clause-ok t c =
     let a = c.args in
-    let left = c.in_ok-holds-in-Or.ensures.value ∙ ap (λ x. holds (target_of x) a.id.now a.grains.now a.pillar.now) c.get-in-Or.ensures in
-    carried c.holds-in-Or-2.result _ _ c.holds-in-Or-2.ensures.value (ap (λ x. holds (target_of x) a.id.now a.grains.now a.pillar.now) c.get-in-Or-2.ensures
+    let left = c.in_ok-holds-in-Or.ensures.ok ∙ ap (λ x. holds (target_of x) a.id.now a.grains.now a.pillar.now) c.get-in-Or.ensures in
+    carried c.holds-in-Or-2.result _ _ c.holds-in-Or-2.ensures.ok (ap (λ x. holds (target_of x) a.id.now a.grains.now a.pillar.now) c.get-in-Or-2.ensures
     ∙ R.or_rest _ _ _ left c.if-branch.false
     ∙ sym (R.holds-Or c.in-Or.left c.in-Or.right a.id.now a.grains.now a.pillar.now) ∙ ap (λ x. holds (target_of x) a.id.now a.grains.now a.pillar.now) (sym c.in-Or.is))
 

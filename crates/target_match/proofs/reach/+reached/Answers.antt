@@ -8,13 +8,13 @@ use Rattle.target_match.specs.Data.{reached, map_reached, reached_pairs}
 use Rattle.target_match.proofs.Meeting.{pairs_most, any-some, any-none, child-found, reached-List, reached-Map, carried}
 use Rattle.target_match.proofs.reach.+reached.Goals as goal
 
-pub any_reached-returns-then-branch-clause-value :
-    goal.any_reached-returns-then-branch-clause-value
-any_reached-returns-then-branch-clause-value t c =
+pub any_reached-returns-then-branch-clause-ok :
+    goal.any_reached-returns-then-branch-clause-ok
+any_reached-returns-then-branch-clause-ok t c =
     let p = regex_source c.args.pattern.now in
     sym (c.loop-item.invariant.same
     ∙ any-some (λ v. reached (starts p) v c.args.path.now) c.args.items.now c.loop-item.item-index c.item-item.result c.loop-item-test.true
-    (ap (λ v. reached (starts p) v c.args.path.now) (sym c.item-item.is) ∙ sym c.in_ok-reached.ensures.value ∙ c.if-branch.true))
+    (ap (λ v. reached (starts p) v c.args.path.now) (sym c.item-item.is) ∙ sym c.in_ok-reached.ensures.ok ∙ c.if-branch.true))
 
 pub any_reached-loop-item-preserved : goal.any_reached-loop-item-preserved
 any_reached-loop-item-preserved t c =
@@ -23,7 +23,7 @@ any_reached-loop-item-preserved t c =
       kept = c.in_ok-reached.ensures.kept ∙ c.loop-item.invariant.kept;
       same = c.loop-item.invariant.same
           ∙ any-none (λ v. reached (starts p) v c.args.path.now) c.args.items.now c.loop-item.item-index c.item-item.result c.loop-item-test.true
-          (ap (λ v. reached (starts p) v c.args.path.now) (sym c.item-item.is) ∙ sym c.in_ok-reached.ensures.value ∙ c.if-branch.false);
+          (ap (λ v. reached (starts p) v c.args.path.now) (sym c.item-item.is) ∙ sym c.in_ok-reached.ensures.ok ∙ c.if-branch.false);
     }
 
 pub child_reached-reached-requires : goal.child_reached-reached-requires
@@ -32,24 +32,24 @@ child_reached-reached-requires t c =
     let same = ap (λ p. size-Value p.1) c.loop-name-item.is in
     (omega (arith, below, same), (c.requires.compiled, c.loop-name.invariant.kept ∙ c.requires.same))
 
-pub child_reached-returns-then-is_key-clause-value :
-    goal.child_reached-returns-then-is_key-clause-value
-child_reached-returns-then-is_key-clause-value t c =
+pub child_reached-returns-then-is_key-clause-ok :
+    goal.child_reached-returns-then-is_key-clause-ok
+child_reached-returns-then-is_key-clause-ok t c =
     let p = regex_source c.args.pattern.now in
     let d = c.loop-name-item.result in
     let here = ap (λ k. bytes_eq k c.args.key.now) (sym (ap (λ q. q.0) c.loop-name-item.is)) ∙ ap (bytes_eq d.0) (sym c.as_bytes.ensures) ∙ sym c.is_key.ensures ∙ c.if-is_key.true in
-    carried c.reached.result _ _ c.reached.ensures.value (sym (c.loop-name.invariant.same
+    carried c.reached.result _ _ c.reached.ensures.ok (sym (c.loop-name.invariant.same
     ∙ child-found (reached (starts p)) c.args.key.now c.args.pairs.now c.loop-name.name-index d c.args.path.now c.loop-name-test.true here
     ∙ ap (λ q. reached (starts p) q.1 c.args.path.now) (sym c.loop-name-item.is)))
 
-pub reached-returns-in-List-clause-value : goal.reached-returns-in-List-clause-value
-reached-returns-in-List-clause-value t c =
+pub reached-returns-in-List-clause-ok : goal.reached-returns-in-List-clause-ok
+reached-returns-in-List-clause-ok t c =
     let p = regex_source c.args.pattern.now in
-    carried c.any_reached.result _ _ c.any_reached.ensures.value (ap (list_any (λ v. reached (starts p) v c.args.path.now)) c.as_slice.ensures
+    carried c.any_reached.result _ _ c.any_reached.ensures.ok (ap (list_any (λ v. reached (starts p) v c.args.path.now)) c.as_slice.ensures
     ∙ sym (reached-List (starts p) c.in-List.items c.args.path.now) ∙ ap (λ v. reached (starts p) v c.args.path.now) (sym c.in-List.is))
 
-pub reached-returns-in-Map-clause-value : goal.reached-returns-in-Map-clause-value
-reached-returns-in-Map-clause-value t c =
+pub reached-returns-in-Map-clause-ok : goal.reached-returns-in-Map-clause-ok
+reached-returns-in-Map-clause-ok t c =
     let p = regex_source c.args.pattern.now in
-    carried c.pairs_reached.result _ _ c.pairs_reached.ensures.value (ap (λ l. map_reached (starts p) (reached_pairs (starts p) l) c.args.path.now) c.as_slice-in-Map.ensures.value
+    carried c.pairs_reached.result _ _ c.pairs_reached.ensures.ok (ap (λ l. map_reached (starts p) (reached_pairs (starts p) l) c.args.path.now) c.as_slice-in-Map.ensures.value
     ∙ sym (reached-Map (starts p) c.in-Map.fields c.args.path.now) ∙ ap (λ v. reached (starts p) v c.args.path.now) (sym c.in-Map.is))

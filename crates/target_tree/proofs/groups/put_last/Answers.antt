@@ -4,8 +4,8 @@ use Rattle.target_tree.specs.Nodegroups.{Group, AreIds}
 use Rattle.target_tree.proofs.Named.{ids-more}
 use Rattle.target_tree.proofs.groups.put_last.Goals as goal
 
-pub returns-in-Ok-clause-added : goal.returns-in-Ok-clause-added
-returns-in-Ok-clause-added c = c.in-Ok.ensures.entries ∙ insert_entry-new bytes_eq c.args.texts.now c.args.name c.args.text c.requires.absent
+pub returns-in-Ok-clause-ok : goal.returns-in-Ok-clause-ok
+returns-in-Ok-clause-ok c = c.in-Ok.ensures.entries ∙ insert_entry-new bytes_eq c.args.texts.now c.args.name c.args.text c.requires.absent
 
 pub returns-in-Ok-clause-ids : goal.returns-in-Ok-clause-ids
 returns-in-Ok-clause-ids c =

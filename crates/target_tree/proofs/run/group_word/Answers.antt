@@ -8,7 +8,7 @@ use Rattle.target_tree.proofs.run.group_word.Goals as goal
 pub returns : goal.returns
 returns c =
     goes-open c.args.groups.now c.args.outer c.args.outers.now c.begin_group.new.outers c.in_ok-text.text.now c.in_ok-inner.inner c.requires.0
-    c.in_ok-text.ensures c.in_ok-inner.ensures.pushed c.in_ok-inner.ensures.inner
+    c.in_ok-text.ensures c.in_ok-inner.ensures.outers c.in_ok-inner.ensures.ok
 
 pub returns-in_err-text : goal.returns-in_err-text
 returns-in_err-text c =

@@ -20,14 +20,14 @@ pub returns-in-Ok-store-clause-held : goal.returns-in-Ok-store-clause-held
 returns-in-Ok-store-clause-held g c = λ told up payloads holds.
     let old = g.D.Disk.state c.args.disk.now in
     let rests = subst (λ (j : JournalState). HoldsPayloads j payloads old) (sym c.self.view_is) holds in
-    c.in-Ok-store.ensures.stored told c.self.inside.limit payloads c.args.payload.now (record { rests = rests; body_is = c.deref.ensures.value ∙ c.in-Ok.ensures; room = omega arith })
+    c.in-Ok-store.ensures.ok told c.self.inside.limit payloads c.args.payload.now (record { rests = rests; body_is = c.deref.ensures.value ∙ c.in-Ok.ensures; room = omega arith })
 
 pub returns-in-Ok-store-clause-left : goal.returns-in-Ok-store-clause-left
 returns-in-Ok-store-clause-left g c = λ told up payloads holds image may.
     let old = g.D.Disk.state c.args.disk.now in
     let new = g.D.Disk.state c.store.new.disk in
     let rests = subst (λ (j : JournalState). HoldsPayloads j payloads old) (sym c.self.view_is) holds in
-    let now = c.in-Ok-store.ensures.stored told c.self.inside.limit payloads c.args.payload.now (record { rests = rests; body_is = c.deref.ensures.value ∙ c.in-Ok.ensures; room = omega arith }) in
+    let now = c.in-Ok-store.ensures.ok told c.self.inside.limit payloads c.args.payload.now (record { rests = rests; body_is = c.deref.ensures.value ∙ c.in-Ok.ensures; room = omega arith }) in
     subst (λ (j : JournalState). IsJournal j.limit (payloads ++ c.args.payload.now ∷ []) (image j.part)) c.self.view_is
     (rests_left c.self.inside.part c.self.inside.limit (c.self.inside.length + 5 + length c.args.payload.now) (payloads ++ c.args.payload.now ∷ []) new now image may)
 

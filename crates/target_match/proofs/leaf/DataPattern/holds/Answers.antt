@@ -7,12 +7,12 @@ use Rattle.target_match.specs.Data.{map_reached, reached_pairs}
 use Rattle.target_match.proofs.Meeting.{carried, pattern-holds}
 use Rattle.target_match.proofs.leaf.DataPattern.holds.Goals as goal
 
-pub returns-clause-value : goal.returns-clause-value
-returns-clause-value c =
+pub returns-clause-ok : goal.returns-clause-ok
+returns-clause-ok c =
     let fields = c.args.fields.now in
     let pattern = pattern_of (parts c.self.inside.text) in
     let source : c.index_mut-search.result.now ≡ pattern = c.index_mut-search.ensures.value ∙ get_or_default _ _ _ [] c.in_ok-place.ensures.within ∙ c.in_ok-place.ensures.same ∙ c.self.invariant.source in
-    carried c.reaches.result _ _ c.reaches.ensures.value
+    carried c.reaches.result _ _ c.reaches.ensures.ok
     (ap (λ p. map_reached (starts p) (reached_pairs (starts p) fields) c.as_slice.result.now) source
     ∙ ap (λ l. map_reached (starts pattern) (reached_pairs (starts pattern) fields) l) (c.as_slice.ensures.value ∙ c.self.invariant.path_is)
     ∙ sym (pattern-holds c.self.inside.text fields) ∙ ap (λ t. pattern_holds t fields) c.self.view_is)
