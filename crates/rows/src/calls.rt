@@ -1,6 +1,6 @@
 //! Which function a row calls.
 use crate::spread::{cut, spread};
-use crate::{globs, ids, json, messages, replays, scripts, targets, values};
+use crate::{functions, globs, ids, json, messages, replays, scripts, targets, values};
 use std::alloc::{AllocError, Global};
 use target_tree::Groups;
 
@@ -29,6 +29,9 @@ fn answer_to(
         "copy" => targets::copy(alloc, groups, rest),
         "value" => values::value(alloc, rest),
         "json" => json::json(alloc, rest),
+        "function" => functions::function(alloc, rest),
+        "run" => functions::run_row(alloc, rest),
+        "exec" => functions::exec_row(alloc, rest),
         "message" => messages::message(alloc, rest),
         "script" => scripts::script(alloc, rest),
         "replay" => replays::replay(alloc, rest),

@@ -4,6 +4,7 @@
 
 mod calls;
 mod digits;
+mod functions;
 mod globs;
 mod ids;
 mod json;

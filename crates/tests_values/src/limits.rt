@@ -1,5 +1,5 @@
 //! Values at their limits.
-use salt_value::{Items, Text, Value, ValueFault};
+use salt_value::{Fields, Items, Text, Value, ValueFault};
 use std::alloc::{AllocError, Global};
 use std::process::Abort;
 
@@ -83,5 +83,21 @@ fn a_value_has_at_most_65536_bytes(rt: HostRuntime) {
     for (length, wanted) in [(65_531, Some(65_536)), (65_532, None)] {
         let value = long(rt.alloc(), length).expect(&rt, "memory");
         has_size(&rt, rt.alloc(), &value, wanted);
+    }
+}
+
+// Is a map within the limits, with a text of so many bytes under a key of one?
+fn map_fits(alloc: Global, length: u32) -> Result<bool, AllocError> {
+    Ok(
+        Fields::new(alloc)
+            .with(alloc, "k", long(alloc, length)?)?
+            .fits(),
+    )
+}
+
+#[test]
+fn a_map_has_at_most_65536_bytes(rt: HostRuntime) {
+    for (length, wanted) in [(65_521, true), (65_522, false)] {
+        assert_eq!(rt; map_fits(rt.alloc(), length), Ok(wanted));
     }
 }
