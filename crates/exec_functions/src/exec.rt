@@ -1,12 +1,13 @@
 //! What each function answers and changes.
 ghost use Rattle.std.specs.Prelude.{◌≡◌, ◌+ℤ◌, ◌∷◌, [], ◌==◌, not, true, IfOk, IfSome, Option, None, Some, string_bytes, if◌then◌else◌};
 ghost use Rattle.std.specs.Option.{option_copied};
-ghost use Rattle.salt_value.specs.Keys.{under};
+ghost use Rattle.salt_value.specs.WellFormed.{ValueFits};
 ghost use Rattle.salt_value.specs.declared.value.Value.TheVariants as v;
 ghost use Rattle.exec_functions.specs.Arguments as form;
 ghost use Rattle.exec_functions.specs.Functions.{named};
 ghost use Rattle.exec_functions.specs.Exec as spec;
 ghost use Rattle.exec_functions.specs.Changes as changes;
+ghost use Rattle.exec_functions.specs.Limits.{IsSendable};
 ghost use Rattle.std.specs.List.{list_all};
 ghost use Rattle.exec_functions.specs.declared.holdings.Change.TheVariants.{Grains, Store, Mine};
 
@@ -137,12 +138,7 @@ fn grains(new: Option<Fields>) -> Change
     }
 }
 
-fn data_update(
-    alloc: Global,
-    key: &str,
-    rest: &[Value],
-    held: &Holdings,
-) -> Result<Ran, AllocError>
+fn data_update(alloc: Global, key: &str, rest: &[Value], held: &Holdings) -> Result<Ran, AllocError>
     ensures { IfOk result (λ ran. ran ≡ spec.data_update key.now rest.now held.now) }
 {
     match rest {
@@ -200,13 +196,7 @@ fn step_of(rest: &[Value]) -> Option<i64>
     }
 }
 
-fn sum(
-    alloc: Global,
-    key: &str,
-    number: i64,
-    step: i64,
-    held: &Holdings,
-) -> Result<Ran, AllocError>
+fn sum(alloc: Global, key: &str, number: i64, step: i64, held: &Holdings) -> Result<Ran, AllocError>
     ensures { IfOk result (λ ran. ran ≡ spec.sum key.now (number +ℤ step) held.now) }
 {
     let Some(sum) = number.checked_add(step) else {
@@ -275,7 +265,12 @@ fn mine_send(alloc: Global, name: &str, args: &[Value], held: &Holdings) -> Resu
     noted(alloc, change, Note::Mine)
 }
 
-fn mine_delete(alloc: Global, name: &str, rest: &[Value], held: &Holdings) -> Result<Ran, AllocError>
+fn mine_delete(
+    alloc: Global,
+    name: &str,
+    rest: &[Value],
+    held: &Holdings,
+) -> Result<Ran, AllocError>
     ensures { IfOk result (λ ran. ran ≡ spec.mine_delete name.now rest.now held.now) }
 {
     if !rest.is_empty() {
@@ -418,12 +413,21 @@ fn unknown(alloc: Global, fun: &str) -> Result<Ran, AllocError>
     Ok(refused(alloc, 254, text))
 }
 
-/// What a function makes of its arguments and of what a minion holds: its outcome, what it changed, and its notes.
-pub fn run(alloc: Global, fun: &Word, args: &[Value], held: &Holdings) -> Result<Ran, AllocError>
-    ensures { IfOk result (λ ran. ran ≡ spec.run fun.now args.now held.now) }
+// What the function with this name makes of its arguments and of what a minion holds.
+fn run_named(alloc: Global, name: &str, args: &[Value], held: &Holdings) -> Result<Ran, AllocError>
+    ensures { IfOk result (λ ran. ran ≡ spec.run name.now args.now held.now) }
 {
-    match Function::read(fun.as_bytes()) {
-        None => unknown(alloc, fun.as_str()),
+    match Function::read(name.as_bytes()) {
+        None => unknown(alloc, name),
         Some(function) => settled(alloc, result_of(alloc, function, args, held)?),
     }
+}
+
+/// What a function makes of its arguments and of what a minion holds: its outcome, what it changed, and its notes.
+pub fn run(alloc: Global, fun: &Word, args: &[Value], held: &Holdings) -> Result<Ran, AllocError>
+    ensures ok { IfOk result (λ ran. ran ≡ spec.run fun.now args.now held.now) }
+    // Where the arguments are within the limits of a value, what is made is within those of a message.
+    ensures fits { IfOk result (λ ran. ValueFits (v.List args.now) → IsSendable ran) }
+{
+    run_named(alloc, fun.as_str(), args, held)
 }

@@ -11,6 +11,6 @@ mod query;
 mod same;
 
 pub use exec::run;
-pub use pairs::copied;
 pub use function::{Function, Query};
 pub use holdings::{Change, Done, Holdings, Note, Notes, Ran};
+pub use pairs::copied;

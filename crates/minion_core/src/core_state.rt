@@ -1,14 +1,15 @@
 //! The state of a minion.
-ghost use Rattle.std.specs.Prelude.{◌≡◌, ◌<◌, ◌+◌, ◌^◌, [], length, IfOk, OnOk};
-ghost use Rattle.exec_functions.specs.declared.holdings.Holdings.{Holdings as Held};
+ghost use Rattle.std.specs.Prelude.{◌≡◌, ◌<◌, ◌≤◌, ◌+◌, ◌^◌, ◌++◌, ◌∷◌, [], ℕ, List, length, take, All, IfOk, OnOk, OnErr};
+ghost use Rattle.salt_wire.specs.Limits.{JobFits, EntryFits};
+ghost use Rattle.salt_wire.specs.declared.message.Entry.{Entry as Told};
+ghost use Rattle.salt_wire.specs.declared.deed.Deed.TheVariants.{Boot};
 ghost use Rattle.minion_core.specs.Flat as flat;
-ghost use Rattle.salt_wire.specs.declared.deed.Changed.{Changed as New};
+ghost use Rattle.exec_functions.specs.Limits.{AreWithin};
 
-use crate::done::done;
+use crate::running::done;
 use exec_functions::Holdings;
+use salt_value::{Fields, MinionId};
 use salt_wire::{Changed, Deed, Entry, Job};
-use salt_value::MinionId;
-use sqlite_items::Items;
 use std::alloc::{AllocError, Global};
 use std::marker::Model;
 
@@ -19,12 +20,12 @@ pub struct MinionCore {
     boots: u32,
     jobs: u32,
     held: Holdings,
-    log: Items<Entry>,
+    log: Vec<Entry>,
 }
 
 impl Model for MinionCore {
     ghost use Rattle.minion_core.specs.Core.{CoreState};
-
+    ghost use Rattle.minion_core.specs.Limits.{StateFits};
     ghost use Rattle.salt_value.specs.contracts.value.Value as value;
     ghost use Rattle.std.specs.Coded.{codes};
 
@@ -32,14 +33,18 @@ impl Model for MinionCore {
 
     ghost coded = { Prim.hlevel (codes, value.the_row.coded) };
 
-    ghost view = { λ m. record { boots = m.boots; jobs = m.jobs; held = m.held; log = m.log } };
+    ghost view = { λ m. record { boots = m.boots; jobs = m.jobs; held = m.held; log = m.log.items } };
+
+    ghost invariant = { λ m. StateFits (record { boots = m.boots; jobs = m.jobs; held = m.held; log = m.log.items }) };
 }
 
 impl MinionCore {
     ghost use Rattle.minion_core.specs.Core.{CoreState, after};
+    ghost use Rattle.minion_core.specs.Limits.{DeedFits, StateFits, HasRoom, ChangedFits};
 
     /// A minion that holds this and has no start, job or entry.
     pub fn new(alloc: Global, held: Holdings) -> MinionCore
+        requires { AreWithin held }
         ensures { result ≡ record { boots = 0; jobs = 0; held = held; log = [] } }
     {
         MinionCore {
@@ -47,46 +52,149 @@ impl MinionCore {
             boots: 0,
             jobs: 0,
             held,
-            log: Items::new(alloc),
+            log: Vec::new(alloc),
         }
     }
 
-    /// The record of the next job.
+    /// The record of the next job. It is within the limits of messages, and has at most two entries.
     pub fn run(&self, id: &MinionId, job: &Job) -> Result<Deed, AllocError>
-        ensures { IfOk result (λ deed. deed ≡ flat.done self.now.jobs job.now id.now self.now.held) }
+        requires { JobFits job.now }
+        ensures ok { IfOk result (λ deed. deed ≡ flat.done self.now.jobs job.now id.now self.now.held) }
+        ensures fits { IfOk result DeedFits }
+        ensures few { IfOk result (λ deed. length (flat.entries_in deed) ≤ 2) }
     {
         done(self.alloc, self.jobs, job, id, &self.held)
     }
 
-    /// Takes a record in. After an `Err` it is given up.
-    pub fn apply(&mut self, deed: Deed) -> Result<(), AllocError>
-        requires boots { self.old.boots + 1 < 2 ^ 32 }
-        requires jobs { self.old.jobs + 1 < 2 ^ 32 }
-        ensures { OnOk result (self.new ≡ after deed self.old) }
+    /// Takes a record in. An error leaves all as it was.
+    pub fn apply(&mut self, deed: &Deed) -> Result<(), AllocError>
+        requires fits { DeedFits deed.now }
+        requires room { HasRoom deed.now self.old }
+        ensures ok { OnOk result (self.new ≡ after deed.now self.old) }
+        ensures err { OnErr result (self.new ≡ self.old) }
     {
         match deed {
-            Deed::Boot => {
-                let boot = self.boots + 1;
-                self.log.push(Entry::Start { boot })?;
-                self.boots = boot;
-                Ok(())
-            }
+            Deed::Boot => self.start(),
             Deed::Done {
-                seq: _seq,
+                seq: _,
                 changed,
                 entries,
-            } => {
-                self.log.append(entries)?;
-                hold(&mut self.held, changed);
-                self.jobs += 1;
-                Ok(())
-            }
-            Deed::Publish { job: _job } => Ok(()),
-            Deed::Up { minion: _minion, entry: _entry } => Ok(()),
-            Deed::Fire { event: _event } => Ok(()),
-            Deed::Intake { job: _job } => Ok(()),
+            } => self.add_done(changed, entries.as_slice()),
+            Deed::Publish { .. } => Ok(()),
+            Deed::Up { .. } => Ok(()),
+            Deed::Fire { .. } => Ok(()),
+            Deed::React { .. } => Ok(()),
+            Deed::Intake { .. } => Ok(()),
         }
     }
+
+    // A start more.
+    fn start(&mut self) -> Result<(), AllocError>
+        requires { self.old.boots + 1 < 2 ^ 32 }
+        ensures ok { OnOk result (self.new ≡ after Boot self.old) }
+        ensures err { OnErr result (self.new ≡ self.old) }
+    {
+        let boot = self.boots + 1;
+        self.log.push(Entry::Start { boot })?;
+        self.boots = boot;
+        Ok(())
+    }
+
+    // A job more, with what it changed and with its entries.
+    fn add_done(&mut self, changed: &Option<Changed>, entries: &[Entry]) -> Result<(), AllocError>
+        requires changed { ChangedFits changed.now }
+        requires entries { All EntryFits entries.now }
+        requires room { self.old.jobs + 1 < 2 ^ 32 }
+        ensures ok { OnOk result (self.new ≡ record { boots = self.old.boots; jobs = self.old.jobs + 1; held = flat.held_with changed.now self.old.held; log = self.old.log ++ entries.now }) }
+        ensures err { OnErr result (self.new ≡ self.old) }
+    {
+        let new = copy_changed(self.alloc, changed)?;
+        push_copies(self.alloc, &mut self.log, entries)?;
+        hold(&mut self.held, new);
+        self.jobs += 1;
+        Ok(())
+    }
+
+    /// How often the minion started.
+    pub fn boots(&self) -> u32
+        ensures value { result ≡ self.now.boots }
+    {
+        self.boots
+    }
+
+    /// How many jobs it has.
+    pub fn jobs(&self) -> u32
+        ensures value { result ≡ self.now.jobs }
+    {
+        self.jobs
+    }
+
+    /// What it holds, each part within the limits of a value.
+    pub fn held(&self) -> &Holdings
+        ensures value { result.now ≡ self.now.held }
+        ensures fits { AreWithin self.now.held }
+    {
+        &self.held
+    }
+
+    /// Its log, each entry within the limits of messages.
+    pub fn log(&self) -> &[Entry]
+        ensures value { result.now ≡ self.now.log }
+        ensures fits { All EntryFits self.now.log }
+    {
+        self.log.as_slice()
+    }
+}
+
+/// What a minion holds that was told nothing. It takes no memory.
+pub fn nothing_held(alloc: Global) -> Holdings
+    ensures value { result ≡ flat.nothing_held }
+    ensures fits { AreWithin result }
+{
+    Holdings {
+        grains: Fields::new(alloc),
+        pillar: Fields::new(alloc),
+        store: Fields::new(alloc),
+        mine: Fields::new(alloc),
+    }
+}
+
+// What is recorded as changed, in memory of its own.
+fn copy_changed(alloc: Global, changed: &Option<Changed>) -> Result<Option<Changed>, AllocError>
+    ensures { IfOk result (λ copy. copy ≡ changed.now) }
+{
+    match changed {
+        None => Ok(None),
+        Some(new) => Ok(Some(Changed {
+            grains: new.grains.copy(alloc)?,
+            store: new.store.copy(alloc)?,
+            mine: new.mine.copy(alloc)?,
+        })),
+    }
+}
+
+// Copies of the entries more, or some of them.
+fn push_all(alloc: Global, log: &mut Vec<Entry>, entries: &[Entry]) -> Result<(), AllocError>
+    ensures ok { OnOk result (log.new.items ≡ log.old.items ++ entries.now) }
+    ensures err { OnErr result ((more : List Told) × (log.new.items ≡ log.old.items ++ more)) }
+{
+    for entry in entries {
+        log.push(entry.copy(alloc)?)?;
+    }
+    Ok(())
+}
+
+// Copies of the entries more, or none of them.
+fn push_copies(alloc: Global, log: &mut Vec<Entry>, entries: &[Entry]) -> Result<(), AllocError>
+    ensures ok { OnOk result (log.new.items ≡ log.old.items ++ entries.now) }
+    ensures err { OnErr result (log.new.items ≡ log.old.items) }
+{
+    let count = log.len();
+    if push_all(alloc, log, entries).is_err() {
+        log.truncate(count);
+        return Err(AllocError);
+    }
+    Ok(())
 }
 
 // What is held from then on.

@@ -9,5 +9,9 @@ pub mod ReadLemmas
 pub mod ByteFields
 pub mod ReadBack
 pub mod RoomLemmas
+pub mod FitTests
+pub mod MemberFits
+pub mod Ascending
+pub mod SameLists
 pub mod Whole
 pub mod FaultLaws

@@ -12,9 +12,13 @@ pub mod Child
 pub mod Tags
 pub mod Spelling
 pub mod WellFormed
+pub mod FitTest
+pub mod Same
+pub mod PairChanges
 pub mod Room
 pub mod Reading
 pub mod Readers
 pub mod Decoding
 pub mod FirstFault
+pub mod Sides
 pub mod formers

@@ -20,8 +20,9 @@ pub fn copy(alloc: Global, value: &Value) -> Result<Value, AllocError>
     }
 }
 
+/// An equal list of values in memory of its own.
 #[cycle(copy)]
-fn copy_items(alloc: Global, items: &[Value]) -> Result<Items, AllocError>
+pub fn copy_items(alloc: Global, items: &[Value]) -> Result<Items, AllocError>
     ensures { IfOk result (λ copies. copies ≡ items.now) }
 {
     let mut copies = Items::new(alloc);

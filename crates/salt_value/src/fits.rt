@@ -4,9 +4,10 @@ ghost use Rattle.salt_value.specs.Spelling as spelling;
 ghost use Rattle.salt_value.specs.Spelling.{bytes, joined, pairs_joined, spelled_pairs};
 ghost use Rattle.salt_value.specs.WellFormed.{IsWellFormed, AllWellFormed, PairsWellFormed, is_int, is_text, well_formed, depth, greatest};
 ghost use Rattle.salt_value.specs.Room.{Leaves};
+ghost use Rattle.salt_value.specs.declared.value.Value.TheVariants as v;
 
 use crate::text::Text;
-use crate::value::Value;
+use crate::value::{Fields, Value};
 
 // The room that is left after the bytes of a number.
 fn after_int(number: i64, room: usize) -> Option<usize>
@@ -93,4 +94,15 @@ fn after_pairs(pairs: &[(Text, Value)], levels: usize, room: usize) -> Option<us
         left = rest;
     }
     Some(left)
+}
+
+// The room that is left after a map of these pairs, which may have so many levels.
+pub fn after_map(fields: &Fields, levels: usize, room: usize) -> Option<usize>
+    requires { room ≤ 65536 }
+    ensures { Leaves (IsWellFormed (v.Map fields.now)) (depth (v.Map fields.now)) levels (length (bytes (v.Map fields.now))) room result }
+{
+    if levels == 0 || room == 0 {
+        return None;
+    }
+    after_pairs(fields.as_slice(), levels - 1, room)
 }

@@ -3,6 +3,7 @@
 #![tactic(auto)]
 
 mod bytes;
+mod changes;
 mod copy;
 mod event;
 mod fault;
@@ -14,12 +15,14 @@ mod laws;
 mod limits;
 mod outcome;
 mod reading;
+mod same;
 mod text;
 mod value;
 mod word;
 mod writing;
 
 pub use bytes::{put_text, put_u16, put_u32, put_u64, text_or, u8_or, u16_or, u32_or, u64_or};
+pub use copy::copy_items;
 pub use event::Event;
 pub use fault::ValueFault;
 pub use fields::Pairs;

@@ -31,6 +31,7 @@ impl Value {
     ghost use Rattle.salt_value.specs.Child.{child};
     ghost use Rattle.salt_value.specs.Spelling.{bytes};
     ghost use Rattle.salt_value.specs.WellFormed.{ValueFits, depth};
+    ghost use Rattle.salt_value.specs.FitTest as test;
     ghost use Rattle.salt_value.specs.Limits.{most_value_levels, most_value_bytes};
     ghost use Rattle.salt_value.specs.Readers.{Answers};
     ghost use Rattle.salt_value.specs.Decoding.{read_at};
@@ -73,10 +74,12 @@ impl Value {
 
     /// Whether the value is within the limits, which are this project's own: its depth is at most 32,
     /// where a scalar has depth 1, and its spelling has at most 65,536 bytes.
+    #[tactic(auto, using(crate::proofs::FitTests::fits_by))]
     pub fn fits(&self) -> bool
         ensures ok { IsTrue result ↔ ValueFits self.now }
         // A value that is refused is too deep or too large.
         ensures large { result ≡ false → depth self.now ≤ most_value_levels → most_value_bytes < length (bytes self.now) }
+        ensures exact { result ≡ test.fits self.now }
     {
         fits::after(self, MOST_VALUE_LEVELS, MOST_VALUE_BYTES).is_some()
     }

@@ -2,6 +2,7 @@
 //! `decode(alloc, body)?` gives the message of a body.
 #![tactic(auto)]
 
+mod copy;
 mod deed;
 mod fault;
 mod fields;

@@ -1,0 +1,37 @@
+-- What is within the limits of a message.
+use Rattle.std.specs.Prelude.{ℕ, ◌<◌, All}
+use Rattle.salt_value.specs.Word.{IsWord}
+use Rattle.salt_value.specs.WellFormed.{ValueFits}
+use Rattle.salt_value.specs.declared.value.Value.TheVariants as v
+use Rattle.exec_functions.specs.declared.holdings.Holdings.{Holdings}
+use Rattle.exec_functions.specs.declared.holdings.Change.{Change}
+use Rattle.exec_functions.specs.declared.holdings.Change.TheVariants as change
+use Rattle.exec_functions.specs.declared.holdings.Note.{Note}
+use Rattle.exec_functions.specs.declared.holdings.Note.TheVariants as note
+use Rattle.exec_functions.specs.declared.holdings.Ran.{Ran}
+
+-- each part of what a minion holds is a map within the limits of a value
+pub record AreWithin (held : Holdings) : Type 0 where
+  pub grains : ValueFits (v.Map held.grains)
+  pub pillar : ValueFits (v.Map held.pillar)
+  pub store : ValueFits (v.Map held.store)
+  pub mine : ValueFits (v.Map held.mine)
+
+-- the part that is another one from now on is a map within the limits of a value
+abbrev pub ChangeFits : Change → Type 0
+ChangeFits change.Nothing = Unit {0}
+ChangeFits (change.Grains part) = ValueFits (v.Map part)
+ChangeFits (change.Store part) = ValueFits (v.Map part)
+ChangeFits (change.Mine part) = ValueFits (v.Map part)
+
+-- an event that was fired has a word as its tag and a body within the limits of a value
+abbrev pub NoteFits : Note → Type 0
+NoteFits (note.Fired event) = IsWord event.tag × ValueFits event.body
+NoteFits note.Mine = Unit {0}
+
+-- what a function made is within the limits of a message
+pub record IsSendable (ran : Ran) : Type 0 where
+  pub retcode : ran.outcome.retcode < 256
+  pub value : ValueFits ran.outcome.value
+  pub change : ChangeFits ran.change
+  pub notes : All NoteFits ran.notes

@@ -1,0 +1,100 @@
+//! A record more, with what is kept beside the records.
+ghost use Rattle.std.specs.Prelude.{◌≡◌, ◌≢◌, ◌++◌, ◌∷◌, [], ◌<◌, ◌≤◌, ◌+◌, ◌^◌, ℕ, List, length, bytes_eq, OnOk, OnErr, if◌then◌else◌};
+ghost use Rattle.minion_core.specs.Core.{after};
+ghost use Rattle.minion_core.specs.Flat as flat;
+ghost use Rattle.minion_core.specs.Limits.{DeedFits, HasRoom};
+ghost use Rattle.node_core.specs.Logs.{entries_at};
+ghost use Rattle.node_core.specs.declared.logs.Logs.TheVariants.{Below};
+ghost use Rattle.salt_wire.specs.Limits.{JobFits};
+ghost use Rattle.salt_wire.specs.declared.deed.Deed.TheVariants.{Up};
+
+use crate::logs::push_below;
+use indexmap::IndexMap;
+use minion_core::MinionCore;
+use salt_value::MinionId;
+use salt_wire::{Deed, Entries, Entry, Job};
+use std::alloc::{AllocError, Global};
+
+/// A record and a job more, or neither.
+pub fn push_both(
+    records: &mut Vec<Deed>,
+    new: Deed,
+    jobs: &mut Vec<Job>,
+    job: Job,
+) -> Result<(), AllocError>
+    ensures records { OnOk result (records.new.items ≡ records.old.items ++ new ∷ []) }
+    ensures jobs { OnOk result (jobs.new.items ≡ jobs.old.items ++ job ∷ []) }
+    ensures kept_records { OnErr result (records.new.items ≡ records.old.items) }
+    ensures kept_jobs { OnErr result (jobs.new.items ≡ jobs.old.items) }
+{
+    let count = records.len();
+    records.push(new)?;
+    if jobs.push(job).is_err() {
+        records.truncate(count);
+        return Err(AllocError);
+    }
+    Ok(())
+}
+
+// A record of an entry from below more.
+fn push_record(
+    alloc: Global,
+    records: &mut Vec<Deed>,
+    minion: MinionId,
+    entry: &Entry,
+) -> Result<(), AllocError>
+    ensures ok { OnOk result (records.new.items ≡ records.old.items ++ Up minion entry.now ∷ []) }
+    ensures err { OnErr result (records.new.items ≡ records.old.items) }
+{
+    let entry = entry.copy(alloc)?;
+    records.push(Deed::Up { minion, entry })?;
+    Ok(())
+}
+
+/// A record of an entry from below and the entry in its minion's log more, or neither.
+pub fn push_up(
+    alloc: Global,
+    records: &mut Vec<Deed>,
+    map: &mut IndexMap<MinionId, Entries>,
+    minion: MinionId,
+    entry: &Entry,
+) -> Result<(), AllocError>
+    ensures records { OnOk result (records.new.items ≡ records.old.items ++ Up minion entry.now ∷ []) }
+    ensures logs { OnOk result ((id : List ℕ) → entries_at (Below map.new) id ≡ (if bytes_eq minion id then entries_at (Below map.old) id ++ entry.now ∷ [] else entries_at (Below map.old) id)) }
+    ensures kept_records { OnErr result (records.new.items ≡ records.old.items) }
+    ensures kept_logs { OnErr result ((id : List ℕ) → entries_at (Below map.new) id ≡ entries_at (Below map.old) id) }
+{
+    let count = records.len();
+    push_record(alloc, records, minion, entry)?;
+    match push_below(alloc, map, minion, entry) {
+        Ok(()) => Ok(()),
+        Err(fault) => {
+            records.truncate(count);
+            Err(fault)
+        }
+    }
+}
+
+/// A record more, which the core of a minion takes in, or neither.
+pub fn push_done(
+    records: &mut Vec<Deed>,
+    core: &mut MinionCore,
+    deed: Deed,
+) -> Result<(), AllocError>
+    requires fits { DeedFits deed }
+    requires room { HasRoom deed core.old }
+    ensures records { OnOk result (records.new.items ≡ records.old.items ++ deed ∷ []) }
+    ensures core { OnOk result (core.new ≡ after deed core.old) }
+    ensures kept_records { OnErr result (records.new.items ≡ records.old.items) }
+    ensures kept_core { OnErr result (core.new ≡ core.old) }
+{
+    let count = records.len();
+    records.push(deed)?;
+    match core.apply(&records[count]) {
+        Ok(()) => Ok(()),
+        Err(fault) => {
+            records.truncate(count);
+            Err(fault)
+        }
+    }
+}
