@@ -82,7 +82,13 @@ fn without_key(alloc: Global, fields: &Fields, key: &str) -> Result<Fields, Allo
     ensures { IfOk result (λ new. new ≡ changes.without_key key.now fields.now) }
 {
     let mut new = Fields::new(alloc);
-    push_side(alloc, &mut new, fields.as_slice(), Side::Other, key.as_bytes())?;
+    push_side(
+        alloc,
+        &mut new,
+        fields.as_slice(),
+        Side::Other,
+        key.as_bytes(),
+    )?;
     Ok(new)
 }
 
