@@ -1,8 +1,10 @@
 //! What a minion holds, and what a function makes of it.
 use salt_value::{Event, Fields, Outcome};
 use sqlite_items::Items;
+use std::alloc::{AllocError, Global};
 
-/// What a minion holds: its grains, its pillar, the store that `data.` functions use, and what it put into the mine.
+/// What a minion holds: its grains, its pillar, the store that the functions `data.` use (in Salt the minion's
+/// data store), and what it put into the mine, each a map.
 #[derive(Drop)]
 pub struct Holdings {
     pub grains: Fields,
@@ -11,7 +13,7 @@ pub struct Holdings {
     pub mine: Fields,
 }
 
-/// What a function changed: nothing, or one part, which is another one from then on.
+/// What a function changed: nothing, or one part, which is another one from then on. No function changes the pillar.
 #[derive(Drop)]
 pub enum Change {
     Nothing,
@@ -25,11 +27,11 @@ pub enum Change {
 pub enum Note {
     /// An event was fired.
     Fired { event: Event },
-    /// The mine was written.
+    /// The mine was written, be it with what stood there before.
     Mine,
 }
 
-/// A list of notes, which contracts see as that list.
+/// A list of notes, which contracts see as that list. A function makes one at most.
 pub type Notes = Items<Note>;
 
 /// What a function made: its outcome, what it changed, and its notes.
@@ -46,4 +48,50 @@ pub struct Done {
     pub outcome: Outcome,
     pub held: Holdings,
     pub notes: Notes,
+}
+
+impl Holdings {
+    ghost use Rattle.std.specs.Prelude.{◌≡◌, IfOk};
+    ghost use Rattle.exec_functions.specs.Exec.{with_change};
+
+    /// Equal holdings in memory of their own.
+    pub fn copy(&self, alloc: Global) -> Result<Holdings, AllocError>
+        ensures { IfOk result (λ copy. copy ≡ self.now) }
+    {
+        Ok(Holdings {
+            grains: self.grains.copy(alloc)?,
+            pillar: self.pillar.copy(alloc)?,
+            store: self.store.copy(alloc)?,
+            mine: self.mine.copy(alloc)?,
+        })
+    }
+
+    /// Puts the part that a function changed in place of the one from before.
+    pub fn apply(&mut self, change: Change)
+        ensures { self.new ≡ with_change change self.old }
+    {
+        match change {
+            Change::Nothing => {}
+            Change::Grains(fields) => self.grains = fields,
+            Change::Store(fields) => self.store = fields,
+            Change::Mine(fields) => self.mine = fields,
+        }
+    }
+}
+
+impl Change {
+    ghost use Rattle.std.specs.Prelude.{◌≡◌};
+    ghost use Rattle.exec_functions.specs.Exec.{change_fits};
+
+    /// Whether the part that is another one from then on is within the limits of a value, which are this project's own.
+    pub fn fits(&self) -> bool
+        ensures { result ≡ change_fits self.now }
+    {
+        match self {
+            Change::Nothing => true,
+            Change::Grains(fields) => fields.fits(),
+            Change::Store(fields) => fields.fits(),
+            Change::Mine(fields) => fields.fits(),
+        }
+    }
 }

@@ -9,7 +9,7 @@ use Rattle.salt_wire.specs.declared.message.Job.{Job}
 use Rattle.salt_wire.specs.declared.message.Entry.{Entry}
 use Rattle.salt_wire.specs.declared.message.Entry.TheVariants.{Return, Fired, Start, Mine}
 use Rattle.salt_wire.specs.declared.deed.Deed.{Deed}
-use Rattle.minion_core.specs.Flat.{done, held_after, entries_in, flat_records, flat_up, flat_held, return_of}
+use Rattle.minion_core.specs.Flat.{done, held_after, held_by, entries_in, flat_records, flat_up, flat_held, return_of}
 use Rattle.minion_core.proofs.Own.{IsOwn, IsDone, done_is, entries_are, return_none, return_late}
 
 -- a return stands in the first of two lists, where it does not stand in the second
@@ -44,3 +44,11 @@ step_from k id h (x ∷ xs) job ys =
     let e : k + suc (length xs) ≡ k + 1 + length xs = omega arith in
     rw e (return_none (k + 1 + length xs) (entries_in d) (flat_up (k + 1) id (held_after h d) (xs ++ job ∷ ys)) (other_done (k + 1 + length xs) k d (λ q. omega arith) (done_is k x id h))
     ∙ step_from (k + 1) id (held_after h d) xs job ys)
+
+-- the records of the flat minion with a job more
+pub flat_push : (k : ℕ) (id : List ℕ) (h : Holdings) (xs : List Job) (j : Job)
+    → flat_records k id h (xs ++ j ∷ []) ≡ flat_records k id h xs ++ done (k + length xs) j id (held_by h (flat_records k id h xs)) ∷ []
+flat_push k id h [] j = let e : k ≡ k + 0 = omega arith in rw (← e) refl
+flat_push k id h (x ∷ xs) j =
+    let e : k + suc (length xs) ≡ k + 1 + length xs = omega arith in
+    rw (flat_push (k + 1) id (held_after h (done k x id h)) xs j, e) refl

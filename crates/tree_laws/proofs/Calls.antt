@@ -6,16 +6,18 @@ use Rattle.std.proofs.lemmas.List.{get_or-set_same, get_or-set_other, length-set
 use Rattle.std.proofs.lemmas.Bool.{cases_eq, eq-eqb, le-leb}
 use Rattle.std.proofs.lemmas.Bool.Decides.{eqb_tells}
 use Rattle.std.proofs.lemmas.Option.{slice_get_within}
-use Rattle.node_core.specs.declared.job.Job.{Job}
-use Rattle.node_core.specs.declared.record.Entry.{Entry}
-use Rattle.node_core.specs.declared.record.Record.{Record}
-use Rattle.node_core.specs.declared.record.Record.TheVariants.{Intake, Up}
-use Rattle.node_core.specs.declared.message.Message.{Message}
-use Rattle.node_core.specs.declared.message.Message.TheVariants as msg
+use Rattle.salt_wire.specs.declared.message.Job.{Job}
+use Rattle.salt_wire.specs.declared.message.Entry.{Entry}
+use Rattle.salt_wire.specs.declared.deed.Deed.{Deed}
+use Rattle.salt_wire.specs.declared.deed.Deed.TheVariants.{Intake, Up}
+use Rattle.salt_wire.specs.declared.message.Message.{Message}
+use Rattle.salt_wire.specs.declared.message.Message.TheVariants as msg
 use Rattle.node_core.specs.declared.faults.Stray.{Stray}
 use Rattle.fleet_config.specs.Fleet.{FleetConfig}
 use Rattle.fleet_config.specs.Tree.{Tree, id_of, parent_of, is_minion, is_parent, place_of, IsTree, branch}
-use Rattle.node_core.specs.Flat.{is_rising}
+use Rattle.minion_core.specs.Flat.{nothing_held, is_rising, done}
+use Rattle.minion_core.proofs.Own.{done_is}
+use Rattle.tree_laws.proofs.Done.{count_done}
 use Rattle.node_core.specs.Records.{jobs, jobs_held, count_in, log}
 use Rattle.node_core.specs.Counts.{raised}
 use Rattle.node_core.specs.Node.{NodeState, Answer, with_record, taken_in, after_pub, after_up, accepted, is_neighbour, may_take, is_below, is_here, is_next, may_record, names_held, stray_of, taken_by, taken}
@@ -34,7 +36,7 @@ use Rattle.tree_laws.proofs.Steps.{fits_more, names_more, node_longer, node_know
 
 -- the node past the end
 abbrev pub blank : NodeState
-blank = record { minion = false; records = []; known_jobs = []; known_ups = [] }
+blank = record { minion = false; records = []; held = nothing_held; known_jobs = []; known_ups = [] }
 
 pub at_same : (nodes : List NodeState) (k : ℕ) (v : NodeState) → k < length nodes → node_at (set nodes k v) k ≡ v
 at_same nodes k v l = get_or-set_same nodes k v blank l
@@ -117,7 +119,7 @@ Took f w from to message =
 pub count_taken : (f : Tree) (i seq : ℕ) (job : Job) (node : NodeState) → count_in (taken_in f i seq job node) ≡ 1
 count_taken f i seq job node = either node.minion refl where
   either : (t : Bool) → node.minion ≡ t → count_in (taken_in f i seq job node) ≡ 1
-  either true e = rw e refl
+  either true e = rw e (count_done seq (done seq job (id_of f i) node.held) (done_is seq job (id_of f i) node.held))
   either false e = rw e refl
 
 unchanged : (f : Tree) (w : Network) (k : ℕ) → Holds f w → Holds f (with_node w k (node_at w.nodes k))
@@ -172,10 +174,10 @@ took_pub f w p c seq job fleet h fits =
     (elim (eqb_tells seq (jobs_held a.records)) [
       | inr y ↦ rw y.0 (unchanged f w c h, (fits.0, le_refl _))
       | inl y ↦ rw y.0
-          (let r : Record = taken_in f c seq job a in
+          (let r : Deed = taken_in f c seq job a in
           let one : count_in r ≡ 1 = count_taken f c seq job a in
           let eq : seq ≡ jobs_held a.records = y.1 in (
-            node_step_same f w c (record a { records = a.records ++ r ∷ [] }) fleet h up (r ∷ [], refl)
+            node_step_same f w c (with_record r a) fleet h up (r ∷ [], refl)
                 (λ z. absurd (omega arith))
                 (node_took f _ c a seq job (h.each c up) eq at)
                 (λ z. pair_below_more f (parent_of f c) c (node_at w.nodes (parent_of f c)) a r
@@ -209,7 +211,7 @@ took_have f w c p n fleet h fits =
     rw (taken_have f p c n a fits.0 (omega arith)) (
       node_step_same f w p (record a { known_jobs = raised a.known_jobs c n }) fleet h in' (prefix_same a.records)
           (λ z. rw z refl)
-          (node_known f _ p a (record a { known_jobs = raised a.known_jobs c n }) refl refl (h.each p in'))
+          (node_known f _ p a (record a { known_jobs = raised a.known_jobs c n }) refl refl refl (h.each p in'))
           (λ z. let g = h.pairs p z in' in record { held = g.held; known_jobs = g.known_jobs; logs = g.logs; known_ups = g.known_ups })
           (λ d dlo dup de.
           let g : IsPair f p d a (node_at w.nodes d) = rw de at (h.pairs d dlo dup) in
@@ -330,7 +332,7 @@ took_up_have f w p c id n fleet h fits =
     rw (taken_up_have f c p id n a fits.0 fits.1 (omega arith)) (
       node_step_same f w c (record a { known_ups = raised a.known_ups m n }) fleet h up (prefix_same a.records)
           (λ z. rw z refl)
-          (node_known f _ c a (record a { known_ups = raised a.known_ups m n }) refl refl (h.each c up))
+          (node_known f _ c a (record a { known_ups = raised a.known_ups m n }) refl refl refl (h.each c up))
           (λ z. rw e (pair_below_known f p c (node_at w.nodes p) a (raised a.known_ups m n)
           (λ j s. raised_within a.known_ups m n j _ (pair.known_ups j s) (λ t. rw (t, is) fits.2)) pair))
           (λ d dlo dup de.
@@ -344,6 +346,7 @@ took f w from to (msg.Pub seq job) fleet h fits = took_pub f w from to seq job f
 took f w from to (msg.Have n) fleet h fits = took_have f w from to n fleet h fits
 took f w from to (msg.Up id n entry) fleet h fits = took_up f w from to id n entry fleet h fits
 took f w from to (msg.UpHave id n) fleet h fits = took_up_have f w from to id n fleet h fits
+took f w from to other fleet h fits = absurd fits
 
 pub packets_step : (f : Tree) (w : Network) (new : List Packet) → Holds f w → AllByRecursion (IsSent f w.nodes) new → Holds f (with_packets w new)
 packets_step f w new h all = record { size = h.size; few = h.few; rising = h.rising; each = h.each; pairs = h.pairs; sent = all_join (IsSent f w.nodes) w.packets new h.sent all }

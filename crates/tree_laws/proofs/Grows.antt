@@ -7,15 +7,16 @@ use Rattle.std.proofs.lemmas.Option.{slice_get_cases}
 use Rattle.fleet_config.specs.Tree.{Tree}
 use Rattle.fleet_config.specs.Fleet.{FleetConfig}
 use Rattle.node_core.specs.declared.faults.Stray.{Stray}
-use Rattle.node_core.specs.declared.record.Record.{Record}
-use Rattle.node_core.specs.declared.record.Record.TheVariants.{Publish, Up}
-use Rattle.node_core.specs.declared.message.Message.{Message}
-use Rattle.node_core.specs.declared.message.Message.TheVariants as msg
+use Rattle.salt_wire.specs.declared.deed.Deed.{Deed}
+use Rattle.salt_wire.specs.declared.deed.Deed.TheVariants.{Publish, Up}
+use Rattle.salt_wire.specs.declared.message.Message.{Message}
+use Rattle.salt_wire.specs.declared.message.Message.TheVariants as msg
 use Rattle.node_core.specs.Records.{jobs_held, log}
 use Rattle.node_core.specs.Node.{NodeState, Taken, with_record, recorded, taken_in, accepted, stray_of, taken_by, taken}
+use Rattle.salt_wire.specs.declared.message.Job.{Job}
 use Rattle.fleet_turns.specs.declared.turn.Turn.{Turn}
 use Rattle.fleet_turns.specs.declared.turn.Turn.TheVariants as kind
-use Rattle.tree_world.specs.Network.{Network, node_at, top_jobs, received, delivered, after, after_all}
+use Rattle.tree_world.specs.Network.{ping_of, Network, node_at, top_jobs, received, delivered, after, after_all}
 use Rattle.tree_laws.specs.Lists.{IsPrefix}
 use Rattle.tree_laws.proofs.Lists.{prefix_same, prefix_trans}
 use Rattle.tree_laws.proofs.Records.{jobs_prefix}
@@ -23,7 +24,7 @@ use Rattle.tree_laws.proofs.Calls.{at_grows}
 use Rattle.tree_laws.proofs.Turns.{published_either, by_receiver}
 
 -- one call on a node
-recorded_grows : (t : Bool) (new : Record) (node : NodeState) → IsPrefix node.records (recorded t new node).records
+recorded_grows : (t : Bool) (new : Deed) (node : NodeState) → IsPrefix node.records (recorded t new node).records
 recorded_grows true new node = (new ∷ [], refl)
 recorded_grows false new node = prefix_same node.records
 
@@ -32,6 +33,7 @@ accepted_grows f me from (msg.Pub seq job) node = recorded_grows (seq == jobs_he
 accepted_grows f me from (msg.Have n) node = prefix_same node.records
 accepted_grows f me from (msg.Up id n entry) node = recorded_grows (n == length (log id node.records)) (Up id entry) node
 accepted_grows f me from (msg.UpHave id n) node = prefix_same node.records
+accepted_grows f me from other node = prefix_same node.records
 
 taken_by_grows : (o : Option Stray) (node : NodeState) (done : Taken) → IsPrefix node.records done.node.records → IsPrefix node.records (taken_by o node done).node.records
 taken_by_grows None node done p = p
@@ -62,7 +64,7 @@ delivered_grows f w i = elim (slice_get_cases w.packets i).1 [
 after_grows : (f : FleetConfig) (turn : Turn) (w : Network) → Grew w (after f turn w)
 after_grows f (kind.Publish moment tgt) w =
     published_either (Grew w) w f.max_jobs moment tgt (λ i. prefix_same (node_at w.nodes i).records)
-    (λ jid few late. set_grows w.nodes 0 (with_record (Publish (record { jid = jid; tgt = tgt })) (node_at w.nodes 0)) (Publish (record { jid = jid; tgt = tgt }) ∷ [], refl))
+    (λ jid few late. set_grows w.nodes 0 (with_record (Publish (ping_of jid tgt)) (node_at w.nodes 0)) (Publish (ping_of jid tgt) ∷ [], refl))
 after_grows f (kind.Send from to count) w = λ i. prefix_same (node_at w.nodes i).records
 after_grows f (kind.Deliver i) w = delivered_grows f w i
 after_grows f (kind.Report jid) w = λ i. prefix_same (node_at w.nodes i).records

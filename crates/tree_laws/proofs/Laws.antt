@@ -1,21 +1,27 @@
 -- The laws, from the invariant.
-use Rattle.std.proofs.Common.{◌≡◌, ℕ, suc, ◌+◌, ◌<◌, ◌∙◌, sym, ap, refl, true, List, [], ◌∷◌, ◌++◌, length, take, drop, arith, append_assoc, take-append-drop}
+use Rattle.fleet_config.specs.Fleet.{FleetConfig}
+use Rattle.std.proofs.Common.{◌≡◌, ◌≤◌, ℕ, suc, ◌+◌, ◌<◌, ◌∙◌, sym, ap, refl, true, List, [], ◌∷◌, ◌++◌, length, take, drop, arith, append_assoc, take-append-drop}
 use Rattle.std.specs.Prelude.{IfSome, Option, None, Some, is_some, Bool, filter}
 use Rattle.std.specs.List.{AllByRecursion}
-use Rattle.node_core.specs.declared.job.Job.{Job}
-use Rattle.node_core.specs.declared.job.Outcome.{Outcome}
-use Rattle.node_core.specs.declared.record.Record.{Record}
+use Rattle.salt_wire.specs.declared.message.Job.{Job}
+use Rattle.salt_value.specs.declared.outcome.Outcome.{Outcome}
+use Rattle.salt_wire.specs.declared.deed.Deed.{Deed}
 use Rattle.node_core.specs.declared.faults.Stray.{Stray}
 use Rattle.fleet_config.specs.Tree.{Tree, id_of, parent_of, is_minion, is_within, IsTree, minions}
-use Rattle.node_core.specs.Flat.{entries_of, flat_up, acts, return_of}
+use Rattle.minion_core.specs.Flat.{done, held_after, held_by, entries_in, flat_records, flat_up, acts, return_of}
 use Rattle.node_core.specs.Records.{jobs_held, log, log_after}
-use Rattle.node_core.specs.Node.{NodeState, Answer, taken}
+use Rattle.std.specs.Prelude.{flat_map}
+use Rattle.exec_functions.specs.declared.holdings.Holdings.{Holdings}
+use Rattle.salt_wire.specs.declared.deed.Deed.{Deed}
+use Rattle.fleet_config.specs.Tree.{place_of}
+use Rattle.tree_laws.proofs.Records.{held_without}
+use Rattle.node_core.specs.Node.{NodeState, Answer, taken, held_of}
 use Rattle.node_core.specs.Node.Answer.{IsStray}
 use Rattle.tree_world.specs.Packets.{Packet}
 use Rattle.tree_world.specs.Network.{Network, node_at, top_jobs}
 use Rattle.tree_laws.specs.Laws.{IsPrefixOfParent, ActedOnce, AreJobsInOrder, NamesHeldJobs, IsTaken, outcome_at, flat_outcome, IsOutcomeFlat, IsReportFlat, IsReportSoFar, has_returned}
 use Rattle.tree_world.specs.Report.{row_of, report, flat_report, by_id}
-use Rattle.node_core.specs.declared.job.Row.{Row}
+use Rattle.salt_value.specs.declared.outcome.Row.{Row}
 use Rattle.std.specs.List.{All, Contains, filter_map, cons_option}
 use Rattle.std.proofs.lemmas.List.Elements.{All-weaker, All-same, All-filter, All-contains_itself, recursion_from_All, All-from_recursion}
 use Rattle.tree_laws.specs.Lists.{IsPrefix}
@@ -24,7 +30,7 @@ use Rattle.tree_laws.proofs.Lists.{prefix_both, all_imply}
 use Rattle.tree_laws.proofs.Trees.{branch_in, parent_before, parent_test, minion_low}
 use Rattle.tree_laws.proofs.Calls.{took, FitsReply}
 use Rattle.tree_laws.proofs.Turns.{minions_in}
-use Rattle.tree_laws.proofs.Places.{IsMinionIn}
+use Rattle.tree_laws.proofs.Places.{IsMinionIn, place_at}
 use Rattle.tree_laws.proofs.Rows.{by_id_all}
 use Rattle.tree_laws.proofs.Chains.{chain, acts_flat, acts_without, return_prefix, return_acts}
 
@@ -47,23 +53,29 @@ pub acted_law : (f : Tree) (w : Network) (m : ℕ) → Holds f w → m < length 
 acted_law f w m h up z =
     let g = (h.each m up).minion z in
     let id : List ℕ = id_of f m in
-    let rs : List Record = (node_at w.nodes m).records in
+    let rs : List Deed = (node_at w.nodes m).records in
     record {
       records = g.acted;
-      entries = acts_without 0 0 id rs ∙ ap (λ (l : List Record). acts (log_after 0 id l)) g.acted ∙ acts_flat 0 id 0 id (take (jobs_held rs) (top_jobs w));
+      entries = acts_without 0 0 id rs ∙ ap (λ (l : List Deed). acts (log_after 0 id l)) g.acted ∙ acts_flat 0 id 0 id (held_of f m) (take (jobs_held rs) (top_jobs w));
+      held = g.held ∙ sym (held_without (held_of f m) rs) ∙ ap (held_by (held_of f m)) g.acted;
     }
 
 -- the flat minion over more jobs
-pub flat_join : (k : ℕ) (id : List ℕ) (xs ys : List Job) → flat_up k id (xs ++ ys) ≡ flat_up k id xs ++ flat_up (k + length xs) id ys
-flat_join k id [] ys = let e : k + 0 ≡ k = omega arith in rw e refl
-flat_join k id (x ∷ xs) ys = let e : k + suc (length xs) ≡ k + 1 + length xs = omega arith in
-    rw (flat_join (k + 1) id xs ys, e) (sym (append_assoc (entries_of k x id) _ _))
+flat_map_join : (xs ys : List Deed) → flat_map entries_in (xs ++ ys) ≡ flat_map entries_in xs ++ flat_map entries_in ys
+flat_map_join [] ys = refl
+flat_map_join (x ∷ xs) ys = rw (flat_map_join xs ys) (sym (append_assoc (entries_in x) _ _))
 
-pub flat_take : (c : ℕ) (id : List ℕ) (js : List Job) → IsPrefix (flat_up 0 id (take c js)) (flat_up 0 id js)
-flat_take c id js = (_, sym (flat_join 0 id (take c js) (drop c js)) ∙ ap (λ (l : List Job). flat_up 0 id l) (take-append-drop c js))
+records_join : (k : ℕ) (id : List ℕ) (h : Holdings) (xs ys : List Job)
+    → flat_records k id h (xs ++ ys) ≡ flat_records k id h xs ++ flat_records (k + length xs) id (held_by h (flat_records k id h xs)) ys
+records_join k id h [] ys = let e : k + 0 ≡ k = omega arith in rw e refl
+records_join k id h (x ∷ xs) ys = let e : k + suc (length xs) ≡ k + 1 + length xs = omega arith in
+    rw (records_join (k + 1) id (held_after h (done k x id h)) xs ys, e) refl
 
-pub flat_prefix : (id : List ℕ) (xs ys : List Job) → IsPrefix xs ys → IsPrefix (flat_up 0 id xs) (flat_up 0 id ys)
-flat_prefix id xs ys p = (_, sym (flat_join 0 id xs p.0) ∙ ap (λ (l : List Job). flat_up 0 id l) p.1)
+pub flat_prefix : (id : List ℕ) (h : Holdings) (xs ys : List Job) → IsPrefix xs ys → IsPrefix (flat_up 0 id h xs) (flat_up 0 id h ys)
+flat_prefix id h xs ys p = (_, sym (flat_map_join (flat_records 0 id h xs) _) ∙ ap (flat_map entries_in) (sym (records_join 0 id h xs p.0)) ∙ ap (λ (l : List Job). flat_up 0 id h l) p.1)
+
+pub flat_take : (c : ℕ) (id : List ℕ) (h : Holdings) (js : List Job) → IsPrefix (flat_up 0 id h (take c js)) (flat_up 0 id h js)
+flat_take c id h js = flat_prefix id h (take c js) js (drop c js, take-append-drop c js)
 
 -- an outcome that a node has is that of the flat minion
 pub outcome_law : (f : Tree) (w : Network) (p m seq : ℕ) (o : Outcome) → IsTree f → Holds f w → m < length f → is_minion f m ≡ true → is_within f p m ≡ true
@@ -73,9 +85,9 @@ outcome_law f w p m seq o fleet h up z i e =
     let whole = chain f w fleet h m p m up (omega arith) i in
     let own : return_of seq (log id (node_at w.nodes m).records) ≡ Some o = return_prefix seq o _ _ whole e in
     let a = acted_law f w m h up z in
-    let mine : return_of seq (flat_up 0 id (take (jobs_held (node_at w.nodes m).records) (top_jobs w))) ≡ Some o =
+    let mine : return_of seq (flat_up 0 id (held_of f m) (take (jobs_held (node_at w.nodes m).records) (top_jobs w))) ≡ Some o =
     ap (return_of seq) (sym a.entries) ∙ return_acts seq (log id (node_at w.nodes m).records) ∙ own in
-    return_prefix seq o _ _ (flat_take (jobs_held (node_at w.nodes m).records) id (top_jobs w)) mine
+    return_prefix seq o _ _ (flat_take (jobs_held (node_at w.nodes m).records) id (held_of f m) (top_jobs w)) mine
 
 minions_by_id : (f : Tree) → All (IsMinionIn f 0) (by_id f (minions f 0))
 minions_by_id f = by_id_all f (IsMinionIn f 0) (minions f 0) (All-from_recursion (IsMinionIn f 0) (minions f 0) (minions_in f 0))
@@ -111,11 +123,11 @@ rows_so_far f some more (m ∷ ms) h =
 pub so_far_law : (f : Tree) (w : Network) (js : List Job) (seq : ℕ) → IsTree f → Holds f w → IsPrefix (top_jobs w) js → IsReportSoFar f js w seq
 so_far_law f w js seq fleet h p =
     let some : List ℕ → Option Outcome = λ id. return_of seq (log id (node_at w.nodes 0).records) in
-    let more : List ℕ → Option Outcome = λ id. return_of seq (flat_up 0 id js) in
+    let more : List ℕ → Option Outcome = λ id. return_of seq (flat_up 0 id (held_of f (place_of f id)) js) in
     rows_so_far f some more (by_id f (minions f 0))
     (recursion_from_All (Keeps f some more) (by_id f (minions f 0))
     (All-weaker (IsMinionIn f 0) (Keeps f some more)
-    (λ m i o e. return_prefix seq o _ _ (flat_prefix (id_of f m) _ _ p) (outcome_law f w 0 m seq o fleet h (minion_low f m i.minion) i.minion i.within e))
+    (λ m i o e. rw (place_at f m fleet (minion_low f m i.minion)) (return_prefix seq o _ _ ((flat_prefix (id_of f m) (held_of f m) _ _ p)) (outcome_law f w 0 m seq o fleet h (minion_low f m i.minion) i.minion i.within e)))
     (by_id f (minions f 0)) (minions_by_id f)))
 
 pub report_law : (f : Tree) (w : Network) (js : List Job) (seq : ℕ) → IsTree f → Holds f w → IsPrefix (top_jobs w) js → IsReportFlat f js w seq
@@ -132,8 +144,8 @@ pub outcomes_law : (f : Tree) (w : Network) (p m seq : ℕ) → IsTree f → Hol
 outcomes_law f w p m seq fleet h up z i =
     if_some (λ o. flat_outcome f (top_jobs w) m seq ≡ Some o) (outcome_at f w p m seq) (λ o e. outcome_law f w p m seq o fleet h up z i e)
 
-pub jobs_law : (f : Tree) (w : Network) → Holds f w → AreJobsInOrder (top_jobs w)
-jobs_law f w h = record { few = h.few; rising = h.rising }
+pub jobs_law : (f : FleetConfig) (w : Network) → Holds f.tree w → length (top_jobs w) ≤ f.max_jobs → AreJobsInOrder f.max_jobs (top_jobs w)
+jobs_law f w h few = record { few = few; within = h.few; rising = h.rising }
 
 pub names_law : (f : Tree) (w : Network) (i : ℕ) → Holds f w → i < length f → NamesHeldJobs w i
 names_law f w i h l = λ id. All-from_recursion (Names (jobs_held (node_at w.nodes i).records)) (log id (node_at w.nodes i).records) ((h.each i l).names id)

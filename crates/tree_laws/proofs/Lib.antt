@@ -2,6 +2,7 @@ pub mod Lists
 pub mod Trees
 pub mod Places
 pub mod Records
+pub mod Done
 pub mod Steps
 pub mod Chains
 pub mod Calls
@@ -9,6 +10,6 @@ pub mod Turns
 pub mod Ascends
 pub mod Rows
 pub mod Laws
+pub mod Bounds
 pub mod Grows
 pub mod Runs
-pub mod Example

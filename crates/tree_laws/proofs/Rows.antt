@@ -11,14 +11,17 @@ use Rattle.std.proofs.lemmas.Bool.{cases_lt}
 use Rattle.std.proofs.lemmas.Map.Text.{is_eq-slice_cmp}
 use Rattle.std.proofs.lemmas.Slice.Eq.{bytes_eq-Decides}
 use Rattle.std.proofs.lemmas.List.Elements.{All-contains, recursion_from_All, All-filter, All-weaker, filter_passes}
-use Rattle.fleet_config.specs.Tree.{Tree, up_to, id_of, is_minion, is_within, parent_of, branch_by, minions, IsTree}
-use Rattle.node_core.specs.declared.job.Job.{Job}
-use Rattle.node_core.specs.declared.job.Outcome.{Outcome}
-use Rattle.node_core.specs.declared.job.Row.{Row}
+use Rattle.fleet_config.specs.Tree.{Tree, up_to, id_of, place_of, is_minion, is_within, parent_of, branch_by, minions, IsTree}
+use Rattle.salt_wire.specs.declared.message.Job.{Job}
+use Rattle.salt_value.specs.declared.outcome.Outcome.{Outcome}
+use Rattle.salt_value.specs.declared.outcome.Row.{Row}
+use Rattle.minion_core.specs.Flat.{flat_up, return_of}
+use Rattle.node_core.specs.Node.{held_of}
 use Rattle.tree_world.specs.Report.{is_before, by_id, row_of, rows, flat_report}
 use Rattle.tree_laws.specs.Laws.{flat_outcome, IsFlatRow, HasFlatRows, AscendById}
 use Rattle.tree_world.proofs.Orders.{is_order}
 use Rattle.tree_laws.proofs.Ascends.{Pairs, flat_all, map_all, map_has, filter_has, up_to_has, up_to_rises, pairs_filter, ordered_ascends, ordered_has}
+use Rattle.tree_laws.proofs.Places.{place_at}
 use Rattle.tree_laws.proofs.Trees.{parent_before, within_test, minion_low, both}
 use Rattle.fleet_config.proofs.Walk.{branch_cases}
 use Rattle.std.specs.Ordering.{ordering_reverse}
@@ -126,17 +129,26 @@ row_is id (Some x) row e =
 row_back : (id : List ℕ) (o : Option Outcome) (row : Row) → id ≡ row.id → o ≡ Some row.outcome → row_of id o ≡ Some row
 row_back id o row e f = ap (row_of id) f ∙ ap (λ (i : List ℕ). row_of i (Some row.outcome)) e
 
+-- the outcome that the flat report has of a minion, which it finds by its id
+found_outcome : Tree → List Job → ℕ → ℕ → Option Outcome
+found_outcome t jobs seq m = return_of seq (flat_up 0 (id_of t m) (held_of t (place_of t (id_of t m))) jobs)
+
+outcome_found : (t : Tree) (jobs : List Job) (seq m : ℕ) → IsTree t → is_minion t m ≡ true → found_outcome t jobs seq m ≡ flat_outcome t jobs m seq
+unfolding found_outcome
+outcome_found t jobs seq m h z = ap (λ i. return_of seq (flat_up 0 (id_of t m) (held_of t i) jobs)) (place_at t m h (minion_low t m z))
+
 pub flat_rows : (t : Tree) (jobs : List Job) (seq : ℕ) → IsTree t → HasFlatRows t jobs seq
+unfolding found_outcome
 flat_rows t jobs seq h row =
     let ms : List ℕ = minions t 0 in
-    let out : ℕ → Option Outcome = λ m. flat_outcome t jobs m seq in
+    let out : ℕ → Option Outcome = found_outcome t jobs seq in
     let P : ℕ → Type 0 = λ m. (r : Row) → row_of (id_of t m) (out m) ≡ Some r → IsFlatRow t jobs seq r in (
       (λ there. All-contains (IsFlatRow t jobs seq) (flat_report t jobs seq) row
           (map_all (λ m. row_of (id_of t m) (out m)) (IsFlatRow t jobs seq) (by_id t ms)
           (recursion_from_All P (by_id t ms)
-          (All-weaker (λ m. is_minion t m ≡ true) P (λ m z r e. let is = row_is (id_of t m) (out m) r e in (m, z, is.0, is.1)) (by_id t ms)
+          (All-weaker (λ m. is_minion t m ≡ true) P (λ m z r e. let is = row_is (id_of t m) (out m) r e in (m, z, is.0, sym (outcome_found t jobs seq m h z) ∙ is.1)) (by_id t ms)
           (by_id_all t (λ m. is_minion t m ≡ true) ms (all_minions t))))) there),
       (λ is. map_has (λ m. row_of (id_of t m) (out m)) (by_id t ms) is.0 row
           (ordered_has (Before t) (is_order t) ms (λ x y. x < y) (never_tied t h) is.0 (minion_there t is.0 h is.1))
-          (row_back (id_of t is.0) (out is.0) row is.2 is.3)),
+          (row_back (id_of t is.0) (out is.0) row is.2 (outcome_found t jobs seq is.0 h is.1 ∙ is.3))),
     )

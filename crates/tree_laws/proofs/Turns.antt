@@ -7,24 +7,24 @@ use Rattle.std.proofs.lemmas.Bool.{lt-ltb}
 use Rattle.std.proofs.lemmas.Bool.Decides.{leb_tells}
 use Rattle.std.proofs.lemmas.Option.{slice_get_cases}
 use Rattle.fleet_config.specs.declared.fleet.Member.{Member}
-use Rattle.node_core.specs.declared.job.Job.{Job}
-use Rattle.node_core.specs.declared.record.Entry.{Entry}
-use Rattle.node_core.specs.declared.record.Record.TheVariants.{Publish, Boot}
-use Rattle.node_core.specs.declared.message.Message.{Message}
+use Rattle.salt_wire.specs.declared.message.Job.{Job}
+use Rattle.salt_wire.specs.declared.message.Entry.{Entry}
+use Rattle.salt_wire.specs.declared.deed.Deed.TheVariants.{Publish, Boot}
+use Rattle.salt_wire.specs.declared.message.Message.{Message}
 use Rattle.fleet_config.specs.Limits.{most_jobs}
 use Rattle.fleet_config.specs.Fleet.{FleetConfig, IsFleet}
 use Rattle.fleet_config.specs.Tree.{Tree, member, id_of, parent_of, is_minion, is_parent, is_within, IsTree, up_to, minions, runs_jobs}
-use Rattle.node_core.specs.Flat.{last_jid, is_after, is_later}
+use Rattle.minion_core.specs.Flat.{nothing_held, last_jid, is_after, is_later}
 use Rattle.node_core.specs.Records.{jobs, jobs_held, log}
 use Rattle.node_core.specs.Counts.{known}
-use Rattle.node_core.specs.Node.{NodeState, with_record, is_here, pubs_from, ups_from, pending_ups, pending, publication, first_node}
+use Rattle.node_core.specs.Node.{held_of, NodeState, with_record, is_here, pubs_from, ups_from, pending_ups, pending, publication, first_node}
 use Rattle.node_core.specs.declared.faults.PublishFault.TheVariants.{JidEnd}
 use Rattle.salt_value.specs.Jid.{next_jid, greatest_jid}
 use Rattle.std.specs.Option.{ok_or}
 use Rattle.std.specs.Prelude.{min}
 use Rattle.fleet_turns.specs.declared.turn.Turn.{Turn}
 use Rattle.fleet_turns.specs.declared.turn.Turn.TheVariants as kind
-use Rattle.tree_world.specs.Network.{Network, node_at, start, top_jobs, with_node, with_packets, published, packet, sent, received, delivered, after, after_all, most_sent}
+use Rattle.tree_world.specs.Network.{Network, ping_of, node_at, start, top_jobs, with_node, with_packets, published, packet, sent, received, delivered, after, after_all, most_sent}
 use Rattle.fleet_turns.specs.Turns.{IsTurn}
 use Rattle.tree_laws.specs.Invariant.{Fits, IsSent, Names, IsNode, IsPair, Holds}
 use Rattle.tree_laws.proofs.Lists.{prefix_same, all_join, all_imply, all_at, all_map, all_take, at_drop}
@@ -92,7 +92,7 @@ next_later (Some last) moment jid e =
 
 -- whatever holds of the network as it was, and as it is with the record, holds after a publication
 pub published_either : (P : Network → Type 0) (w : Network) (max_jobs moment : ℕ) (tgt : List ℕ) → P w
-    → ((jid : ℕ) → length (top_jobs w) < max_jobs → is_after (last_jid (top_jobs w)) jid ≡ true → P (with_node w 0 (with_record (Publish (record { jid = jid; tgt = tgt })) (node_at w.nodes 0))))
+    → ((jid : ℕ) → length (top_jobs w) < max_jobs → is_after (last_jid (top_jobs w)) jid ≡ true → P (with_node w 0 (with_record (Publish (ping_of jid tgt)) (node_at w.nodes 0))))
     → P (published tgt (publication max_jobs moment (top_jobs w)) w)
 published_either P w max_jobs moment tgt old more = elim (leb_tells max_jobs (length (top_jobs w))) [
   | inl y ↦ rw y.0 old
@@ -105,7 +105,7 @@ published_either P w max_jobs moment tgt old more = elim (leb_tells max_jobs (le
 publish_step : (f : FleetConfig) (w : Network) (moment : ℕ) (tgt : List ℕ) → IsFleet f → Holds f.tree w → Holds f.tree (published tgt (publication f.max_jobs moment (top_jobs w)) w)
 publish_step f w moment tgt fleet h =
     published_either (Holds f.tree) w f.max_jobs moment tgt h
-    (λ jid few late. add_step f.tree w (record { jid = jid; tgt = tgt }) fleet.tree h (let l = fleet.jobs in omega arith) late)
+    (λ jid few late. add_step f.tree w (ping_of jid tgt) fleet.tree h (let l = fleet.jobs in omega arith) late)
 
 -- send: what is pending may be sent
 pubs_fit : (f : Tree) (me to : ℕ) (node : NodeState) → is_parent f me to ≡ true → (seq : ℕ) (js : List Job)
@@ -188,19 +188,24 @@ run_holds f (turn ∷ turns) w fleet t h = run_holds f turns (after f turn w) fl
 
 -- the start
 first_of : Bool → NodeState
-first_of t = record { minion = t; records = if t then Boot ∷ [] else []; known_jobs = []; known_ups = [] }
+first_of t = record { minion = t; records = if t then Boot ∷ [] else []; held = nothing_held; known_jobs = []; known_ups = [] }
 
 first_at : (f : Tree) (i : ℕ) → i < length f → node_at (map first_node f) i ≡ first_node (member f i)
 first_at [] i l = absurd (omega arith)
 first_at (s ∷ f) zero l = refl
 first_at (s ∷ f) (suc i) l = first_at f i (omega arith)
 
+-- what a node holds as it starts
+holds_first : (f : Tree) (i : ℕ) → nothing_held ≡ held_of f i
+unfolding held_of
+holds_first f i = refl
+
 first_holds : (f : Tree) (top : List Job) (i : ℕ) (t : Bool) → is_minion f i ≡ t → IsNode f top i (first_of t)
 unfolding first_of
 first_holds f top i true z = record {
   runs = sym z;
   master = λ y. absurd (let x = sym z ∙ y in cc);
-  minion = λ y. record { within = omega arith; acted = refl };
+  minion = λ y. record { within = omega arith; acted = refl; held = holds_first f i };
   names = λ id. (refl, tt);
 }
 first_holds f top i false z = record {
@@ -219,7 +224,7 @@ first_is : (m : Member) → first_node m ≡ first_of (runs_jobs m.role)
 unfolding first_of
 first_is m = refl
 
-first_jobs : (f : FleetConfig) → IsTree f.tree → top_jobs (start f) ≡ []
+pub first_jobs : (f : FleetConfig) → IsTree f.tree → top_jobs (start f) ≡ []
 unfolding first_of
 first_jobs f fleet = rw (first_at f.tree 0 fleet.some, fleet.top) refl
 

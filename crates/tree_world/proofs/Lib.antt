@@ -1,3 +1,3 @@
-pub mod Bodies
-pub mod Delivers
 pub mod Orders
+mod Bodies
+mod Delivers

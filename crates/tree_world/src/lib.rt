@@ -9,7 +9,6 @@
 mod packet;
 mod report;
 mod text;
-mod wire;
 mod world;
 
 pub use fleet_turns::Turn;

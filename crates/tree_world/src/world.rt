@@ -1,6 +1,7 @@
 //! The network of a fleet, and its turns.
-ghost use Rattle.std.specs.Prelude.{◌≡◌, ◌<◌, ◌++◌, ◌^◌, List, All, slice_set, length, map, take, true, IfOk, IfSome, OnOk, IsErrOf};
+ghost use Rattle.std.specs.Prelude.{codes, ◌≡◌, ◌<◌, ◌++◌, ◌^◌, List, All, slice_set, length, map, take, true, IfOk, IfSome, OnOk, IsErrOf};
 ghost use Rattle.node_core.specs.Node.{first_node, pending, is_neighbour, IsCounted};
+ghost use Rattle.salt_wire.specs.Limits.{Within};
 ghost use Rattle.tree_world.specs.Network.{node_at, reception, with_reply, replied};
 ghost use Rattle.tree_world.specs.Packets.{Packet};
 ghost use Rattle.tree_world.specs.Network as network;
@@ -12,9 +13,10 @@ use crate::report::{rows_of, sort_by_id};
 use crate::text::{missing_text, number_of, packet_text, publish_text, rows_text, unknown_text};
 use fleet_config::Fleet;
 use fleet_turns::Turn;
-use node_core::{Glob, Message, Node, PendFault, PublishFault, TakeFault};
+use node_core::{Glob, Node, PendFault, PublishFault, TakeFault};
 use salt_outside::{Outside, Sink};
-use salt_value::{Jid, NodeId};
+use salt_value::{Jid, NodeId, Word, WordFault};
+use salt_wire::Message;
 use sqlite_items::at;
 use std::alloc::{AllocError, Global};
 use std::marker::Model;
@@ -24,7 +26,7 @@ use thiserror::Error;
 pub const MOST_SENT: u64 = 4_294_967_295;
 
 /// A fleet, its nodes, and the packets that were ever sent.
-#[derive(Debug, Drop)]
+#[derive(Drop)]
 pub struct World {
     alloc: Global,
     fleet: Fleet,
@@ -34,11 +36,17 @@ pub struct World {
 }
 
 impl Model for World {
-    ghost use Rattle.std.specs.Prelude.{◌≡◌, ◌<◌, All, length};
+    ghost use Rattle.std.specs.Prelude.{codes, ◌≡◌, ◌<◌, All, length};
     ghost use Rattle.fleet_config.specs.Tree.{minions};
     ghost use Rattle.tree_world.specs.Network.{System};
 
     ghost Value = { System };
+
+    ghost use Rattle.salt_value.specs.contracts.value.Value as value;
+    ghost use Rattle.target_tree.specs.contracts.target.Target as target;
+    ghost use Rattle.std.specs.Coded.{codes as codings};
+
+    ghost coded = { Prim.hlevel (codings, value.the_row.coded, target.the_row.coded) };
 
     ghost use Rattle.tree_world.specs.Report as report;
 
@@ -149,7 +157,8 @@ impl World {
         let Some(top) = self.nodes.first_mut() else {
             unreachable!();
         };
-        match top.publish(&self.fleet, moment, tgt) {
+        let fun = ping(self.alloc)?;
+        match top.publish(&self.fleet, moment, tgt, &fun, &[]) {
             Ok(jid) => Ok(Ok(jid)),
             Err(PublishFault::NoMemory) => Err(AllocError),
             Err(cause) => Ok(Err(cause)),
@@ -167,7 +176,7 @@ impl World {
             return unknown_text(self.alloc, jid);
         };
         let rows = rows_of(self.alloc, &self.fleet, top, seq as u32, &self.order)?;
-        rows_text(self.alloc, jid, &rows)
+        rows_text(self.alloc, jid, &top.jobs()[seq].fun, &rows)
     }
 
     // The line of a packet.
@@ -224,6 +233,7 @@ fn take_packet(
     ensures nodes { OnOk result (nodes.new.items ≡ slice_set nodes.old.items packet.now.to (reception fleet.now nodes.old.items packet.now).node) }
     ensures reply { IfOk result (λ reply. (packets : List Packet) → with_reply packet.now (reception fleet.now nodes.old.items packet.now).answer packets ≡ replied packet.now reply packets) }
     ensures count { length nodes.new.items ≡ length nodes.old.items }
+    ensures fits { IfOk result (λ reply. IfSome reply Within) }
     ensures counted { IfOk result (λ reply. IfSome reply IsCounted) }
 {
     let message = packet.message(alloc)?;
@@ -243,7 +253,8 @@ fn push_reply(
     to: NodeId,
     reply: Option<Message>,
 ) -> Result<(), AllocError>
-    requires { IfSome reply IsCounted }
+    requires fits { IfSome reply Within }
+    requires counted { IfSome reply IsCounted }
     ensures { (p : Packet) → p.from ≡ from → p.to ≡ to → OnOk result (packets.new.items ≡ replied p reply packets.old.items) }
 {
     if let Some(message) = reply {
@@ -264,6 +275,7 @@ fn pending_of(
     requires nodes { length nodes.now ≡ length fleet.now.tree }
     requires neighbour { is_neighbour fleet.now.tree from to ≡ true }
     ensures messages { IfOk result (λ messages. messages.items ≡ take max (pending fleet.now.tree from to (node_at nodes.now from))) }
+    ensures fits { IfOk result (λ messages. All Within messages.items) }
     ensures counted { IfOk result (λ messages. All IsCounted messages.items) }
 {
     match nodes[from.index()].pending(fleet, from, to, max) {
@@ -281,7 +293,8 @@ fn push_packets(
     to: NodeId,
     messages: &[Message],
 ) -> Result<(), AllocError>
-    requires { All IsCounted messages.now }
+    requires fits { All Within messages.now }
+    requires counted { All IsCounted messages.now }
     ensures { OnOk result (packets.new.items ≡ packets.old.items ++ map (network.packet from to) messages.now) }
 {
     for message in messages {
@@ -300,6 +313,17 @@ pub fn tell<K: Sink>(sink: &mut K, text: &[u8]) -> Result<(), StepFault>
         Ok(()) => Ok(()),
         Err(Outside::NoMemory) => Err(StepFault::NoMemory),
         Err(Outside::Failed) => Err(StepFault::WriteFault),
+    }
+}
+
+// The name of the function that a turn publishes.
+fn ping(alloc: Global) -> Result<Word, AllocError>
+    ensures { IfOk result (λ fun. fun ≡ codes "test.ping") }
+{
+    match Word::read(alloc, "test.ping") {
+        Ok(fun) => Ok(fun),
+        Err(WordFault::NoMemory) => Err(AllocError),
+        Err(_) => unreachable!(),
     }
 }
 

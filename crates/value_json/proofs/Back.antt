@@ -18,7 +18,8 @@ use Rattle.salt_value.proofs.ReadBack.{depth-List, depth-Map, well_formed-List, 
 use Rattle.salt_value.proofs.WriteLemmas.{both_true, pairs_told}
 use Rattle.value_json.specs.Texts.{data_of, data_layer, data_pairs, members_from, json_text, value_of, values_of, pairs_of}
 use Rattle.value_json.specs.Causes.{is_wide, has_wide, items_have_wide, members_have_wide}
-use Rattle.value_json.specs.Whole.{json_value, answer_of, value_or_fault, value_or_limit, fits, IsWritten}
+use Rattle.value_json.specs.Whole.{json_value, answer_of, value_or_fault, value_or_limit, IsWritten}
+use Rattle.salt_value.specs.FitTest.{fits}
 use Rattle.value_json.specs.declared.parsing.JsonFault.{JsonFault}
 use Rattle.value_json.specs.declared.parsing.JsonFault.TheVariants.{TooDeep, TooLarge}
 use Rattle.value_json.proofs.Trees.{data-Map}

@@ -1,7 +1,7 @@
 use Rattle.std.proofs.Common.{subst, sym}
 use Rattle.salt_value.specs.Word.{IsWord}
 use Rattle.exec_functions.proofs.Sendable.{ok_sends}
-use Rattle.exec_functions.proofs.exec.run.Goals as goal
+use Rattle.exec_functions.proofs.execution.run.Goals as goal
 
 pub returns-clause-fits : goal.returns-clause-fits
 returns-clause-fits c =

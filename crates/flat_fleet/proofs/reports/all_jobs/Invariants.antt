@@ -1,0 +1,7 @@
+use Rattle.std.proofs.Common.{◌≡◌, take, map}
+use Rattle.flat_fleet.specs.Reports.{reports_to}
+use Rattle.flat_fleet.proofs.Present.{present}
+use Rattle.flat_fleet.proofs.reports.all_jobs.Given as goal
+
+abbrev pub invariant-loop-job : goal.invariant-loop-job
+invariant-loop-job l = (l.minions ≡ map (present (take l.job-index l.jobs)) l.initial.minions) × (l.reports.items ≡ reports_to l.job-index l.initial.minions l.jobs)
