@@ -1,5 +1,6 @@
 -- The laws, from the invariant.
-use Rattle.std.proofs.Common.{◌≡◌, ℕ, suc, ◌+◌, ◌<◌, ◌∙◌, sym, ap, refl, true, List, [], ◌∷◌, ◌++◌, length, take, drop, arith, append_assoc, take-append-drop}
+use Rattle.fleet_config.specs.Fleet.{FleetConfig}
+use Rattle.std.proofs.Common.{◌≡◌, ◌≤◌, ℕ, suc, ◌+◌, ◌<◌, ◌∙◌, sym, ap, refl, true, List, [], ◌∷◌, ◌++◌, length, take, drop, arith, append_assoc, take-append-drop}
 use Rattle.std.specs.Prelude.{IfSome, Option, None, Some, is_some, Bool, filter}
 use Rattle.std.specs.List.{AllByRecursion}
 use Rattle.salt_wire.specs.declared.message.Job.{Job}
@@ -143,8 +144,8 @@ pub outcomes_law : (f : Tree) (w : Network) (p m seq : ℕ) → IsTree f → Hol
 outcomes_law f w p m seq fleet h up z i =
     if_some (λ o. flat_outcome f (top_jobs w) m seq ≡ Some o) (outcome_at f w p m seq) (λ o e. outcome_law f w p m seq o fleet h up z i e)
 
-pub jobs_law : (f : Tree) (w : Network) → Holds f w → AreJobsInOrder (top_jobs w)
-jobs_law f w h = record { few = h.few; rising = h.rising }
+pub jobs_law : (f : FleetConfig) (w : Network) → Holds f.tree w → length (top_jobs w) ≤ f.max_jobs → AreJobsInOrder f.max_jobs (top_jobs w)
+jobs_law f w h few = record { few = few; within = h.few; rising = h.rising }
 
 pub names_law : (f : Tree) (w : Network) (i : ℕ) → Holds f w → i < length f → NamesHeldJobs w i
 names_law f w i h l = λ id. All-from_recursion (Names (jobs_held (node_at w.nodes i).records)) (log id (node_at w.nodes i).records) ((h.each i l).names id)

@@ -10,5 +10,6 @@ pub mod Turns
 pub mod Ascends
 pub mod Rows
 pub mod Laws
+pub mod Bounds
 pub mod Grows
 pub mod Runs

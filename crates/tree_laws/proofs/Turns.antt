@@ -224,7 +224,7 @@ first_is : (m : Member) → first_node m ≡ first_of (runs_jobs m.role)
 unfolding first_of
 first_is m = refl
 
-first_jobs : (f : FleetConfig) → IsTree f.tree → top_jobs (start f) ≡ []
+pub first_jobs : (f : FleetConfig) → IsTree f.tree → top_jobs (start f) ≡ []
 unfolding first_of
 first_jobs f fleet = rw (first_at f.tree 0 fleet.some, fleet.top) refl
 
