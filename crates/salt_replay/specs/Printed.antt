@@ -3,13 +3,13 @@ use Rattle.std.specs.Prelude.{◌≡◌, ℕ, List, ◌++◌, length, take, code
 use Rattle.std.specs.List.{concat}
 use Rattle.salt_outside.specs.Streams.{appended}
 use Rattle.fleet_config.specs.Tree.{Tree}
-use Rattle.node_core.specs.declared.job.Job.{Job}
-use Rattle.node_core.specs.declared.job.Row.{Row}
+use Rattle.salt_wire.specs.declared.message.Job.{Job}
+use Rattle.salt_value.specs.declared.outcome.Row.{Row}
 use Rattle.fleet_turns.specs.declared.turn.Turn.{Turn}
 use Rattle.fleet_turns.specs.declared.turn.Turn.TheVariants.{Report}
 use Rattle.tree_world.specs.Network.{Network, top_jobs}
 use Rattle.tree_world.specs.Report.{flat_report}
-use Rattle.tree_world.specs.Text.{line, printed, rows_text, unknown_text, number_of}
+use Rattle.tree_world.specs.Text.{line, printed, function_at, rows_text, unknown_text, number_of}
 use Rattle.tree_laws.specs.Laws.{network_after, AscendById}
 use Rattle.script_text.specs.declared.script.Script.{Script}
 use Rattle.script_text.specs.Script.{fleet_of}
@@ -24,7 +24,7 @@ network_before s i = network_after (fleet_of s) (take i s.turns)
 abbrev pub IsReportOf : Tree → List Job → ℕ → Option ℕ → List ℕ → Type 0
 IsReportOf t jobs jid None piece = piece ≡ unknown_text jid
 IsReportOf t jobs jid (Some seq) piece =
-    (rows : List Row) × (piece ≡ rows_text jid rows) × All (Contains (flat_report t jobs seq)) rows × AscendById rows
+    (rows : List Row) × (piece ≡ rows_text jid (function_at jobs seq) rows) × All (Contains (flat_report t jobs seq)) rows × AscendById rows
 
 -- a text of pieces, one for each turn of a script, and of the line of the end
 pub record IsPrinted (s : Script) (text : List ℕ) : Type 0 where

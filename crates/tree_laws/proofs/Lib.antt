@@ -13,3 +13,4 @@ pub mod Laws
 pub mod Bounds
 pub mod Grows
 pub mod Runs
+pub mod Example

@@ -238,7 +238,9 @@ fn take_packet(
 {
     let message = packet.message(alloc)?;
     let node = &mut nodes[packet.to().index()];
-    match node.take(fleet, packet.to(), packet.from(), &message) {
+    let taken = node.take(fleet, packet.to(), packet.from(), &message);
+    drop(message);
+    match taken {
         Ok(reply) => Ok(reply),
         Err(TakeFault::Stray { .. }) => Ok(None),
         Err(TakeFault::NoMemory) => Err(AllocError),
@@ -258,7 +260,9 @@ fn push_reply(
     ensures { (p : Packet) → p.from ≡ from → p.to ≡ to → OnOk result (packets.new.items ≡ replied p reply packets.old.items) }
 {
     if let Some(message) = reply {
-        packets.push(Packet::new(alloc, to, from, &message)?)?;
+        let packet = Packet::new(alloc, to, from, &message);
+        drop(message);
+        packets.push(packet?)?;
     }
     Ok(())
 }
