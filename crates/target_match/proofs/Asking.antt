@@ -14,7 +14,8 @@ use Rattle.target_match.specs.Paths.{parts, pattern_of}
 use Rattle.target_match.specs.Holds.{Data, holds, patterns_layer, patterns}
 use Rattle.target_match.specs.Searches.{is_searched, Keeps, one_leaf, negated, left_fails, and_then, left_holds, or_else, HasSearches}
 use Rattle.target_match.specs.Ready.{target_of}
-use Rattle.target_match.proofs.Readied.{of-IdGlob, of-IdPcre, of-IdList, of-GrainGlob, of-GrainPcre, of-PillarGlob, of-PillarPcre, of-Not, of-And, of-Or}
+use Rattle.target_match.proofs.Keeping.{of_id_pattern, of_grain_pattern, of_pillar_pattern}
+use Rattle.target_match.proofs.Readied.{of-IdGlob, of-IdList, of-GrainGlob, of-PillarGlob, of-Not, of-And, of-Or}
 
 -- what follows from an answer follows from it again
 pub on_ok : {E P Q : Type 0} (r : Result Bool E) → (P → Q) → OnOk r P → OnOk r Q
@@ -65,20 +66,17 @@ pillar_glob id grains pillar tree text searches e =
 pub id_pattern : (id : List ℕ) (grains pillar : Data) (tree : Ready) (text : List ℕ) (searches : List (List ℕ)) → tree ≡ R.IdPcre text → list_any (bytes_eq text) searches ≡ true
     → HasSearches id grains pillar (target_of tree) searches
 id_pattern id grains pillar tree text searches e h =
-    leaf id grains pillar tree (Some text) searches
-    (ap (λ (t : Ready). patterns (target_of t)) e ∙ ap patterns (of-IdPcre text ∙ sym (T.rolls-IdPcre text)) ∙ fold-roll-Target (List (Option (List ℕ))) patterns_layer (Target-F.IdPcre text)) h
+    leaf id grains pillar tree (Some text) searches (of_id_pattern tree text e) h
 
 pub grain_pattern : (id : List ℕ) (grains pillar : Data) (tree : Ready) (text : List ℕ) (searches : List (List ℕ)) → tree ≡ R.GrainPcre text → list_any (bytes_eq (pattern_of (parts text))) searches ≡ true
     → HasSearches id grains pillar (target_of tree) searches
 grain_pattern id grains pillar tree text searches e h =
-    leaf id grains pillar tree (Some (pattern_of (parts text))) searches
-    (ap (λ (t : Ready). patterns (target_of t)) e ∙ ap patterns (of-GrainPcre text ∙ sym (T.rolls-GrainPcre text)) ∙ fold-roll-Target (List (Option (List ℕ))) patterns_layer (Target-F.GrainPcre text)) h
+    leaf id grains pillar tree (Some (pattern_of (parts text))) searches (of_grain_pattern tree text e) h
 
 pub pillar_pattern : (id : List ℕ) (grains pillar : Data) (tree : Ready) (text : List ℕ) (searches : List (List ℕ)) → tree ≡ R.PillarPcre text → list_any (bytes_eq (pattern_of (parts text))) searches ≡ true
     → HasSearches id grains pillar (target_of tree) searches
 pillar_pattern id grains pillar tree text searches e h =
-    leaf id grains pillar tree (Some (pattern_of (parts text))) searches
-    (ap (λ (t : Ready). patterns (target_of t)) e ∙ ap patterns (of-PillarPcre text ∙ sym (T.rolls-PillarPcre text)) ∙ fold-roll-Target (List (Option (List ℕ))) patterns_layer (Target-F.PillarPcre text)) h
+    leaf id grains pillar tree (Some (pattern_of (parts text))) searches (of_pillar_pattern tree text e) h
 
 pub not_tree : (id : List ℕ) (grains pillar : Data) (tree one got : Ready) (searches : List (List ℕ)) → tree ≡ R.Not one → got ≡ one
     → HasSearches id grains pillar (target_of got) searches → HasSearches id grains pillar (target_of tree) searches
