@@ -79,17 +79,22 @@ not_recorded old new calls kept same less = record {
   bounded = λ first within. omega (arith, within, less);
 }
 
+-- what holds of the old states of each part, and of the new ones of one part, holds of all where that part has the new ones
+with_both : (part : Part) (one two : DiskState) (x y : PartState) (P : Part → PartState → PartState → Type 0) → ((other : Part) → P other (part_of one other) (part_of two other)) → P part x y
+    → (other : Part) → P other (part_of (with_part one part x) other) (part_of (with_part two part y) other)
+with_both Root one two x y P each here Root = here
+with_both Root one two x y P each here Even = each Even
+with_both Root one two x y P each here Odd = each Odd
+with_both Even one two x y P each here Root = each Root
+with_both Even one two x y P each here Even = here
+with_both Even one two x y P each here Odd = each Odd
+with_both Odd one two x y P each here Root = each Root
+with_both Odd one two x y P each here Even = each Even
+with_both Odd one two x y P each here Odd = here
+
 -- the images where one part has another state
 with_image : (part : Part) (disk : DiskState) (value : PartState) (image : Image) → MayLeave disk image → IsPartImage value (image part) → MayLeave (with_part disk part value) image
-with_image Root disk value image may here Root = here
-with_image Root disk value image may here Even = may Even
-with_image Root disk value image may here Odd = may Odd
-with_image Even disk value image may here Root = may Root
-with_image Even disk value image may here Even = here
-with_image Even disk value image may here Odd = may Odd
-with_image Odd disk value image may here Root = may Root
-with_image Odd disk value image may here Even = may Even
-with_image Odd disk value image may here Odd = here
+with_image part disk value image may here = with_both part disk disk value value (λ other state same. IsPartImage state (image other)) may here
 
 with_here : (part : Part) (disk : DiskState) (value : PartState) (image : Image) → MayLeave (with_part disk part value) image → IsPartImage value (image part)
 with_here Root disk value image may = may Root
@@ -110,15 +115,7 @@ without_image Odd disk value image may here Odd = here
 -- one part goes on, and the record with it
 leads_with : (part : Part) (replayed disk : DiskState) (replayed_value value : PartState) → Replays replayed disk → LeadsTo replayed_value value
     → Replays (with_part replayed part replayed_value) (with_part disk part value)
-leads_with Root replayed disk x y leads goes Root = goes
-leads_with Root replayed disk x y leads goes Even = leads Even
-leads_with Root replayed disk x y leads goes Odd = leads Odd
-leads_with Even replayed disk x y leads goes Root = leads Root
-leads_with Even replayed disk x y leads goes Even = goes
-leads_with Even replayed disk x y leads goes Odd = leads Odd
-leads_with Odd replayed disk x y leads goes Root = leads Root
-leads_with Odd replayed disk x y leads goes Even = leads Even
-leads_with Odd replayed disk x y leads goes Odd = goes
+leads_with part replayed disk x y leads goes = with_both part replayed disk x y (λ other one two. LeadsTo one two) leads goes
 
 pub with_same : (disk : DiskState) (part : Part) → with_part disk part (part_of disk part) ≡ disk
 with_same disk Root = refl

@@ -84,24 +84,31 @@ both_parts l r before between after k j = record {
       j.enough (ap (λ (xs : List (List ℕ)). list_all (is_searched xs) r) unchanged ∙ parts.1) ∙ unchanged;
 }
 
+-- the pattern of each kind of leaf that has one
+pub of_id_pattern : (tree : Ready) (text : List ℕ) → tree ≡ R.IdPcre text → patterns (target_of tree) ≡ Some text ∷ []
+of_id_pattern tree text e = ap (λ (t : Ready). patterns (target_of t)) e ∙ ap patterns (of-IdPcre text ∙ sym (T.rolls-IdPcre text)) ∙ fold-roll-Target (List (Option (List ℕ))) patterns_layer (Target-F.IdPcre text)
+
+pub of_grain_pattern : (tree : Ready) (text : List ℕ) → tree ≡ R.GrainPcre text → patterns (target_of tree) ≡ Some (pattern_of (parts text)) ∷ []
+of_grain_pattern tree text e = ap (λ (t : Ready). patterns (target_of t)) e ∙ ap patterns (of-GrainPcre text ∙ sym (T.rolls-GrainPcre text)) ∙ fold-roll-Target (List (Option (List ℕ))) patterns_layer (Target-F.GrainPcre text)
+
+pub of_pillar_pattern : (tree : Ready) (text : List ℕ) → tree ≡ R.PillarPcre text → patterns (target_of tree) ≡ Some (pattern_of (parts text)) ∷ []
+of_pillar_pattern tree text e = ap (λ (t : Ready). patterns (target_of t)) e ∙ ap patterns (of-PillarPcre text ∙ sym (T.rolls-PillarPcre text)) ∙ fold-roll-Target (List (Option (List ℕ))) patterns_layer (Target-F.PillarPcre text)
+
 -- a decision of a tree by that of a leaf or of its parts
 pub id_leaf : (tree : Ready) (text : List ℕ) (before after : List (List ℕ)) → tree ≡ R.IdPcre text
     → Keeps (Some text ∷ []) before after → Keeps (patterns (target_of tree)) before after
 id_leaf tree text before after e h =
-    on _ (Some text ∷ []) before after
-    (ap (λ (t : Ready). patterns (target_of t)) e ∙ ap patterns (of-IdPcre text ∙ sym (T.rolls-IdPcre text)) ∙ fold-roll-Target (List (Option (List ℕ))) patterns_layer (Target-F.IdPcre text)) h
+    on _ (Some text ∷ []) before after (of_id_pattern tree text e) h
 
 pub grain_leaf : (tree : Ready) (text : List ℕ) (before after : List (List ℕ)) → tree ≡ R.GrainPcre text
     → Keeps (Some (pattern_of (parts text)) ∷ []) before after → Keeps (patterns (target_of tree)) before after
 grain_leaf tree text before after e h =
-    on _ (Some (pattern_of (parts text)) ∷ []) before after
-    (ap (λ (t : Ready). patterns (target_of t)) e ∙ ap patterns (of-GrainPcre text ∙ sym (T.rolls-GrainPcre text)) ∙ fold-roll-Target (List (Option (List ℕ))) patterns_layer (Target-F.GrainPcre text)) h
+    on _ (Some (pattern_of (parts text)) ∷ []) before after (of_grain_pattern tree text e) h
 
 pub pillar_leaf : (tree : Ready) (text : List ℕ) (before after : List (List ℕ)) → tree ≡ R.PillarPcre text
     → Keeps (Some (pattern_of (parts text)) ∷ []) before after → Keeps (patterns (target_of tree)) before after
 pillar_leaf tree text before after e h =
-    on _ (Some (pattern_of (parts text)) ∷ []) before after
-    (ap (λ (t : Ready). patterns (target_of t)) e ∙ ap patterns (of-PillarPcre text ∙ sym (T.rolls-PillarPcre text)) ∙ fold-roll-Target (List (Option (List ℕ))) patterns_layer (Target-F.PillarPcre text)) h
+    on _ (Some (pattern_of (parts text)) ∷ []) before after (of_pillar_pattern tree text e) h
 
 pub not_tree : (tree one got : Ready) (before after : List (List ℕ)) → tree ≡ R.Not one → got ≡ one
     → Keeps (patterns (target_of got)) before after → Keeps (patterns (target_of tree)) before after

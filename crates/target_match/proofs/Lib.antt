@@ -5,3 +5,4 @@ pub mod ById
 pub mod Readied
 pub mod Leaves
 pub mod Keeping
+pub mod Asking

@@ -1,10 +1,11 @@
 -- The parts of a text, from the left, and the text that they join to.
-use Rattle.std.proofs.Common.{◌≡◌, ◌≢◌, ℕ, suc, ◌<◌, ◌==◌, Bool, true, false, cond, List, [], ◌∷◌, ◌++◌, length, get_or, refl, ap, sym, ◌∙◌, append_assoc, arith}
+use Rattle.std.proofs.Common.{◌≡◌, ◌≢◌, ℕ, ◌<◌, ◌==◌, Bool, true, false, cond, List, [], ◌∷◌, ◌++◌, length, get_or, refl, ap, sym, ◌∙◌, append_assoc, arith}
 use Rattle.std.specs.List.{slice_split, onto_first, before_first, after_first, position_or_len}
 use Rattle.std.proofs.lemmas.Bool.Decides.{nat_tests}
-use Rattle.std.proofs.lemmas.List.Splits.{slice_split_first, slice_split-cons_no}
+use Rattle.std.proofs.lemmas.List.Splits.{slice_split_first}
 use Rattle.std.specs.Prelude.{if◌then◌else◌}
 use Rattle.std.proofs.lemmas.List.{append-nil}
+use Rattle.target_tree.proofs.Cuts.{uncut}
 use Rattle.target_match.specs.Paths.{parts, joined, is_name, path_of, after_path, pattern_of}
 
 abbrev pub colon : ℕ → Bool
@@ -15,16 +16,9 @@ pub parts-more : (text part rest : List ℕ) → part ≡ before_first colon tex
 unfolding parts
 parts-more text part rest e f h = slice_split_first colon text 0 h ∙ cc
 
-uncut : (text : List ℕ) → ((i : ℕ) → i < length text → get_or text i 0 ≢ 58) → slice_split colon text ≡ text ∷ []
-uncut [] h = refl
-uncut (b ∷ text) h =
-    let first : b ≢ 58 = h 0 (omega arith) in
-    let no : colon b ≡ false = grind (arith, nat_tests) in
-    slice_split-cons_no colon b text no ∙ ap (onto_first b) (uncut text (λ i lt. h (suc i) (omega arith)))
-
 pub parts-one : (text : List ℕ) → ((i : ℕ) → i < length text → get_or text i 0 ≢ 58) → parts text ≡ text ∷ []
 unfolding parts
-parts-one text h = uncut text h
+parts-one text h = uncut 58 text h
 
 -- there is a first part
 some_part : (text : List ℕ) → (p : List ℕ) × (ps : List (List ℕ)) × (slice_split colon text ≡ p ∷ ps)

@@ -1,7 +1,7 @@
 //! Whether a ready tree holds for a minion.
-ghost use Rattle.std.specs.Prelude.{◌≡◌, IfOk, IsOk, IsTrue};
+ghost use Rattle.std.specs.Prelude.{◌≡◌, IfOk, OnOk, IsOk, IsTrue};
 ghost use Rattle.target_match.specs.Holds.{holds, is_by_id, patterns};
-ghost use Rattle.target_match.specs.Searches.{Keeps};
+ghost use Rattle.target_match.specs.Searches.{Keeps, HasSearches};
 ghost use Rattle.target_match.specs.Ready.{target_of};
 
 use crate::data::pairs_meet;
@@ -23,6 +23,7 @@ pub fn holds<'m>(
 ) -> Result<bool, AllocError>
     ensures ok { IfOk result (λ b. b ≡ holds (target_of ready.now) id.now grains.now pillar.now) }
     ensures searches { Keeps (patterns (target_of ready.now)) searches.old.items searches.new.items }
+    ensures asked { OnOk result (HasSearches id.now grains.now pillar.now (target_of ready.now) searches.new.items) }
     ensures memory { IsTrue (is_by_id (target_of ready.now)) → IsOk result }
 {
     match ready {

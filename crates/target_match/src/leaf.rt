@@ -1,5 +1,6 @@
 //! Patterns of leaves with what is made of them once. Contracts see the text of the leaf.
-ghost use Rattle.std.specs.Prelude.{◌≡◌, [], ◌∷◌, Some, IfOk, IfErr};
+ghost use Rattle.std.specs.Prelude.{◌≡◌, [], ◌∷◌, Some, bytes_eq, IfOk, IfErr, OnOk, IsTrue};
+ghost use Rattle.std.specs.List.{list_any};
 ghost use Rattle.target_match.specs.Paths.{parts, pattern_of};
 ghost use Rattle.target_match.specs.Patterns.{IsReadable, starts};
 ghost use Rattle.target_match.specs.Holds.{pattern_holds};
@@ -55,6 +56,7 @@ impl IdPattern {
     ) -> Result<bool, AllocError>
         ensures ok { IfOk result (λ b. b ≡ starts self.now id.now) }
         ensures searches { Keeps (Some self.now ∷ []) searches.old.items searches.new.items }
+        ensures asked { OnOk result (IsTrue (list_any (bytes_eq self.now) searches.new.items)) }
     {
         let place = made(alloc, searches, &self.regex)?;
         let search = &mut searches[place];
@@ -106,6 +108,7 @@ impl DataPattern {
     ) -> Result<bool, AllocError>
         ensures ok { IfOk result (λ b. b ≡ pattern_holds self.now fields.now) }
         ensures searches { Keeps (Some (pattern_of (parts self.now)) ∷ []) searches.old.items searches.new.items }
+        ensures asked { OnOk result (IsTrue (list_any (bytes_eq (pattern_of (parts self.now))) searches.new.items)) }
     {
         let place = made(alloc, searches, &self.regex)?;
         let search = &mut searches[place];

@@ -1,7 +1,7 @@
 //! A target that is ready for matching.
-ghost use Rattle.std.specs.Prelude.{◌≡◌, ℕ, [], IfOk, IsOk, IsErrOf, IsTrue};
+ghost use Rattle.std.specs.Prelude.{◌≡◌, ℕ, [], IfOk, OnOk, IsOk, IsErrOf, IsTrue};
 ghost use Rattle.target_match.specs.Holds.{Data, holds, is_by_id, decided, patterns, AreReadable, IsBadAt, IsBigAt, IsToldAs};
-ghost use Rattle.target_match.specs.Searches.{Keeps};
+ghost use Rattle.target_match.specs.Searches.{Keeps, HasSearches};
 
 use crate::BuildFault;
 use crate::building::ready;
@@ -74,7 +74,7 @@ impl Matcher {
     }
 
     /// What `holds` answers. The searches that are there stay for the next minion, also after want of memory, and none is made
-    /// for a pattern that has one.
+    /// for a pattern that has one. After an answer each pattern that was asked has its search.
     pub fn holds_with<'m>(
         &'m self,
         searches: &mut Searches<'m>,
@@ -84,6 +84,7 @@ impl Matcher {
     ) -> Result<bool, AllocError>
         ensures value { IfOk result (λ b. b ≡ holds self.now id.now grains.now pillar.now) }
         ensures searches { Keeps (patterns self.now) searches.old searches.new }
+        ensures asked { OnOk result (HasSearches id.now grains.now pillar.now self.now searches.new) }
         ensures memory { IsTrue (is_by_id self.now) → IsOk result }
     {
         holds(

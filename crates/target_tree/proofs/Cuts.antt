@@ -35,18 +35,19 @@ words-more s w r e f h some = ap (filter is_not_empty) (cut s w r e f h) ∙ kep
 pub words-skip : (s w r : List ℕ) → w ≡ before_first space s → r ≡ after_first space s → position_or_len space s < length s → nat_eq (length w) 0 ≡ true → words_of s ≡ words_of r
 words-skip s w r e f h none = ap (filter is_not_empty) (cut s w r e f h) ∙ kept false w (slice_split space r) (no-byte w none)
 
-uncut : (s : List ℕ) → ((i : ℕ) → i < length s → get_or s i 0 ≢ 32) → slice_split space s ≡ s ∷ []
-uncut [] h = refl
-uncut (b ∷ s) h =
-    let first : b ≢ 32 = h 0 (omega arith) in
-    let no : space b ≡ false = grind (arith, nat_tests) in
-    slice_split-cons_no space b s no ∙ ap (onto_first b) (uncut s (λ i lt. h (suc i) (omega arith)))
+-- a text without this byte is one part
+pub uncut : (byte : ℕ) (s : List ℕ) → ((i : ℕ) → i < length s → get_or s i 0 ≢ byte) → slice_split (λ b. nat_eq b byte) s ≡ s ∷ []
+uncut byte [] h = refl
+uncut byte (b ∷ s) h =
+    let first : b ≢ byte = h 0 (omega arith) in
+    let no : nat_eq b byte ≡ false = grind (arith, nat_tests) in
+    slice_split-cons_no (λ b. nat_eq b byte) b s no ∙ ap (onto_first b) (uncut byte s (λ i lt. h (suc i) (omega arith)))
 
 pub words-last : (s : List ℕ) → ((i : ℕ) → i < length s → get_or s i 0 ≢ 32) → nat_eq (length s) 0 ≡ false → words_of s ≡ s ∷ []
-words-last s h some = ap (filter is_not_empty) (uncut s h) ∙ kept true s [] (some-byte s some)
+words-last s h some = ap (filter is_not_empty) (uncut 32 s h) ∙ kept true s [] (some-byte s some)
 
 pub words-none : (s : List ℕ) → ((i : ℕ) → i < length s → get_or s i 0 ≢ 32) → nat_eq (length s) 0 ≡ true → words_of s ≡ []
-words-none s h none = ap (filter is_not_empty) (uncut s h) ∙ kept false s [] (no-byte s none)
+words-none s h none = ap (filter is_not_empty) (uncut 32 s h) ∙ kept false s [] (no-byte s none)
 
 pub tokens-more : (s w r : List ℕ) → words_of s ≡ w ∷ words_of r → tokens_of s ≡ token w ∷ tokens_of r
 unfolding tokens_of

@@ -1,14 +1,15 @@
 -- The items of a list, from the left, and ids as a test.
-use Rattle.std.proofs.Common.{◌≡◌, ◌≢◌, ℕ, suc, ◌<◌, Bool, true, false, List, [], ◌∷◌, ◌++◌, length, map, get_or, refl, ap, sym, ◌∙◌, arith, append_assoc}
+use Rattle.std.proofs.Common.{◌≡◌, ◌≢◌, ℕ, ◌<◌, Bool, true, false, List, [], ◌∷◌, ◌++◌, length, map, get_or, refl, ap, sym, ◌∙◌, arith, append_assoc}
 use Rattle.std.specs.Prelude.{if◌then◌else◌, nat_le, nat_eq, ◌&&◌}
-use Rattle.std.specs.List.{slice_split, list_all, onto_first, before_first, after_first, position_or_len}
+use Rattle.std.specs.List.{slice_split, list_all, before_first, after_first, position_or_len}
 use Rattle.std.proofs.lemmas.Bool.Decides.{nat_tests}
-use Rattle.std.proofs.lemmas.List.Splits.{slice_split_first, slice_split-cons_no}
+use Rattle.std.proofs.lemmas.List.Splits.{slice_split_first}
 use Rattle.std.proofs.lemmas.List.Folds.{list_all-append}
 use Rattle.salt_value.specs.Id.{IsId, is_id_byte}
 use Rattle.target_tree.specs.declared.target.Target.TheVariants.{IdList}
 use Rattle.target_tree.specs.declared.token.Token.TheVariants.{Leaf, NoLeaf}
 use Rattle.target_tree.specs.Words.{id_list, is_id, items_of, trimmed}
+use Rattle.target_tree.proofs.Cuts.{uncut}
 
 both-true : (a b : Bool) → (a && b) ≡ true → (a ≡ true) × (b ≡ true)
 both-true true b h = (refl, h)
@@ -44,16 +45,9 @@ items-more text item rest e f h =
     let cut : slice_split comma text ≡ item ∷ slice_split comma rest = slice_split_first comma text 0 h ∙ cc in
     ap (map trimmed) cut
 
-uncut : (text : List ℕ) → ((i : ℕ) → i < length text → get_or text i 0 ≢ 44) → slice_split comma text ≡ text ∷ []
-uncut [] h = refl
-uncut (b ∷ text) h =
-    let first : b ≢ 44 = h 0 (omega arith) in
-    let no : comma b ≡ false = grind (arith, nat_tests) in
-    slice_split-cons_no comma b text no ∙ ap (onto_first b) (uncut text (λ i lt. h (suc i) (omega arith)))
-
 pub items-last : (text : List ℕ) → ((i : ℕ) → i < length text → get_or text i 0 ≢ 44) → items_of text ≡ trimmed text ∷ []
 unfolding items_of
-items-last text h = ap (map trimmed) (uncut text h)
+items-last text h = ap (map trimmed) (uncut 44 text h)
 
 false-and : (a b : Bool) → b ≡ false → (a && b) ≡ false
 false-and true b e = e

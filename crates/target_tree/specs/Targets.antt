@@ -1,5 +1,5 @@
 -- What `read_target` answers.
-use Rattle.std.specs.Prelude.{ℕ, ◌+◌, nat_le, nat_lt, List, [], ◌∷◌, length, if◌then◌else◌, Result, Ok, Err, IsOk}
+use Rattle.std.specs.Prelude.{ℕ, nat_le, nat_lt, List, [], ◌∷◌, length, if◌then◌else◌, Result, Ok, Err, IsOk}
 use Rattle.target_tree.specs.Nodegroups.{Group}
 use Rattle.target_tree.specs.declared.kind.Kind.{Kind}
 use Rattle.target_tree.specs.declared.kind.Kind.TheVariants.{Glob, Pcre, List as ListKind, Grain, GrainPcre as GrainPcreKind, Pillar, PillarPcre as PillarPcreKind, Nodegroup, Compound}
