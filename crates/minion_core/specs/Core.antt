@@ -16,11 +16,11 @@ pub record CoreState : Type 0 where
   pub log : List Entry
 
 -- the state after a record
-abbrev pub after : Deed → CoreState → CoreState
-after (Publish job) s = s
-after (Up minion entry) s = s
-after (Fire event) s = s
-after (React items) s = s
-after (Intake job) s = s
-after Boot s = record { boots = s.boots + 1; jobs = s.jobs; held = s.held; log = s.log ++ Start (s.boots + 1) ∷ [] }
-after (Done seq changed entries) s = record { boots = s.boots; jobs = s.jobs + 1; held = held_with changed s.held; log = s.log ++ entries }
+abbrev pub core_after : Deed → CoreState → CoreState
+core_after (Publish job) s = s
+core_after (Up minion entry) s = s
+core_after (Fire event) s = s
+core_after (React items) s = s
+core_after (Intake job) s = s
+core_after Boot s = record { boots = s.boots + 1; jobs = s.jobs; held = s.held; log = s.log ++ Start (s.boots + 1) ∷ [] }
+core_after (Done seq changed entries) s = record { boots = s.boots; jobs = s.jobs + 1; held = held_with changed s.held; log = s.log ++ entries }

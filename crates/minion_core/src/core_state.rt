@@ -39,7 +39,7 @@ impl Model for MinionCore {
 }
 
 impl MinionCore {
-    ghost use Rattle.minion_core.specs.Core.{CoreState, after};
+    ghost use Rattle.minion_core.specs.Core.{CoreState, core_after};
     ghost use Rattle.minion_core.specs.Limits.{DeedFits, StateFits, HasRoom, ChangedFits};
 
     /// A minion that holds this and has no start, job or entry.
@@ -70,7 +70,7 @@ impl MinionCore {
     pub fn apply(&mut self, deed: &Deed) -> Result<(), AllocError>
         requires fits { DeedFits deed.now }
         requires room { HasRoom deed.now self.old }
-        ensures ok { OnOk result (self.new ≡ after deed.now self.old) }
+        ensures ok { OnOk result (self.new ≡ core_after deed.now self.old) }
         ensures err { OnErr result (self.new ≡ self.old) }
     {
         match deed {
@@ -91,7 +91,7 @@ impl MinionCore {
     // A start more.
     fn start(&mut self) -> Result<(), AllocError>
         requires { self.old.boots + 1 < 2 ^ 32 }
-        ensures ok { OnOk result (self.new ≡ after Boot self.old) }
+        ensures ok { OnOk result (self.new ≡ core_after Boot self.old) }
         ensures err { OnErr result (self.new ≡ self.old) }
     {
         let boot = self.boots + 1;

@@ -62,7 +62,7 @@ impl Model for Node {
 
 impl Node {
     ghost use Rattle.fleet_config.specs.Tree.{member};
-    ghost use Rattle.node_core.specs.Node.{NodeState, taken, taken_in, answer_of, stray_of, accepted, after_pub, after_up, pending, pending_down, pending_up, pending_ups, publication, first_node, with_record, is_neighbour, is_next, may_take, may_record, IsCounted};
+    ghost use Rattle.node_core.specs.Node.{NodeState, taken, taken_in, reply_answer, stray_of, accepted, after_pub, after_up, pending, pending_down, pending_up, pending_ups, publication, first_node, with_record, is_neighbour, is_next, may_take, may_record, IsCounted};
     ghost use Rattle.node_core.specs.Node.Answer.{Reply};
     ghost use Rattle.node_core.specs.Records.{jobs, log, jobs_held};
     ghost use Rattle.minion_core.specs.Flat.{done, return_of, nothing_held};
@@ -119,7 +119,7 @@ impl Node {
         requires within { me < length fleet.now.tree }
         requires counted { IsCounted message.now }
         requires fits { Within message.now }
-        ensures ok { IfOk result (λ reply. taken fleet.now.tree me from message.now self.old ≡ record { node = self.new; answer = answer_of reply }) }
+        ensures ok { IfOk result (λ reply. taken fleet.now.tree me from message.now self.old ≡ record { node = self.new; answer = reply_answer reply }) }
         ensures counted { IfOk result (λ reply. IfSome reply IsCounted) }
         ensures fits { IfOk result (λ reply. IfSome reply Within) }
         ensures err { OnErr result (self.new ≡ self.old) }
@@ -374,7 +374,7 @@ impl Node {
         requires taken { stray_of fleet.now.tree me from message.now self.old ≡ None }
         requires counted { IsCounted message.now }
         requires fits { Within message.now }
-        ensures accepted { IfOk result (λ reply. accepted fleet.now.tree me from message.now self.old ≡ record { node = self.new; answer = answer_of reply }) }
+        ensures accepted { IfOk result (λ reply. accepted fleet.now.tree me from message.now self.old ≡ record { node = self.new; answer = reply_answer reply }) }
         ensures counted { IfOk result (λ reply. IfSome reply IsCounted) }
         ensures fits { IfOk result (λ reply. IfSome reply Within) }
         ensures err { OnErr result (self.new ≡ self.old) }

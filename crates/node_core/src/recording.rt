@@ -1,6 +1,6 @@
 //! A record more, with what is kept beside the records.
 ghost use Rattle.std.specs.Prelude.{◌≡◌, ◌≢◌, ◌++◌, ◌∷◌, [], ◌<◌, ◌≤◌, ◌+◌, ◌^◌, ℕ, List, length, bytes_eq, OnOk, OnErr, if◌then◌else◌};
-ghost use Rattle.minion_core.specs.Core.{after};
+ghost use Rattle.minion_core.specs.Core.{core_after};
 ghost use Rattle.minion_core.specs.Flat as flat;
 ghost use Rattle.minion_core.specs.Limits.{DeedFits, HasRoom};
 ghost use Rattle.node_core.specs.Logs.{entries_at};
@@ -80,7 +80,7 @@ fn push_done(records: &mut Vec<Deed>, core: &mut MinionCore, deed: Deed) -> Resu
     requires fits { DeedFits deed }
     requires room { HasRoom deed core.old }
     ensures records { OnOk result (records.new.items ≡ records.old.items ++ deed ∷ []) }
-    ensures core { OnOk result (core.new ≡ after deed core.old) }
+    ensures core { OnOk result (core.new ≡ core_after deed core.old) }
     ensures kept_records { OnErr result (records.new.items ≡ records.old.items) }
     ensures kept_core { OnErr result (core.new ≡ core.old) }
 {
@@ -108,7 +108,7 @@ pub fn push_run(
     requires fits { JobFits job.now }
     requires room { core.old.jobs + 1 < 2 ^ 32 }
     ensures records { OnOk result (records.new.items ≡ records.old.items ++ flat.done seq job.now id.now core.old.held ∷ []) }
-    ensures core { OnOk result (core.new ≡ after (flat.done seq job.now id.now core.old.held) core.old) }
+    ensures core { OnOk result (core.new ≡ core_after (flat.done seq job.now id.now core.old.held) core.old) }
     ensures few { OnOk result (length (flat.entries_in (flat.done seq job.now id.now core.old.held)) ≤ 2) }
     ensures fits { OnOk result (DeedFits (flat.done seq job.now id.now core.old.held)) }
     ensures kept_records { OnErr result (records.new.items ≡ records.old.items) }

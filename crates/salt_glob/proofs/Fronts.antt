@@ -3,23 +3,23 @@ use Rattle.std.proofs.Common.{◌≡◌, ◌≢◌, ℕ, ◌==◌, Bool, true, f
 use Rattle.std.specs.Prelude.{if◌then◌else◌, Option, None, Some}
 use Rattle.std.proofs.lemmas.Bool.Decides.{nat_tests}
 use Rattle.salt_glob.specs.Classes.{Class, class_of, class_size}
-use Rattle.salt_glob.specs.Globs.{Piece, star, any, set, plain, opened, piece, more, pieces_after, pieces, Matches}
+use Rattle.salt_glob.specs.Globs.{Piece, star, any, set, plain, class_piece, piece, more, pieces_after, pieces, Matches}
 use Rattle.salt_glob.specs.Fronts.{Takes, IsByFront}
 use Rattle.salt_glob.proofs.Pieces.{pieces_after-drop}
 
 closed_pieces : (rest : List ℕ) (c : Class) → class_of rest ≡ Some c → pieces (91 ∷ rest) ≡ set c ∷ pieces (drop (class_size c) rest)
 closed_pieces rest c e =
-    ap (λ (o : Option Class). opened o ∷ pieces_after (more (opened o)) rest) e
+    ap (λ (o : Option Class). class_piece o ∷ pieces_after (more (class_piece o)) rest) e
     ∙ ap (λ (ps : List Piece). set c ∷ ps) (pieces_after-drop (class_size c) rest)
 
 unclosed_pieces : (rest : List ℕ) → class_of rest ≡ None → pieces (91 ∷ rest) ≡ plain 91 ∷ pieces rest
-unclosed_pieces rest e = ap (λ (o : Option Class). opened o ∷ pieces_after (more (opened o)) rest) e
+unclosed_pieces rest e = ap (λ (o : Option Class). class_piece o ∷ pieces_after (more (class_piece o)) rest) e
 
 not_same : (a b : ℕ) → a ≢ b → (a == b) ≡ false
 not_same a b h = grind (arith, nat_tests)
 
 plain_of : (s q c : Bool) (x : ℕ) (o : Option Class) → s ≡ false → q ≡ false → c ≡ false
-    → (if s then star else (if q then any else (if c then opened o else plain x))) ≡ plain x
+    → (if s then star else (if q then any else (if c then class_piece o else plain x))) ≡ plain x
 plain_of true q c x o e f g = absurd cc
 plain_of false true c x o e f g = absurd cc
 plain_of false false true x o e f g = absurd cc

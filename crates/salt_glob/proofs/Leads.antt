@@ -4,7 +4,7 @@ use Rattle.std.specs.Prelude.{None, Some}
 use Rattle.std.proofs.lemmas.List.{length-drop}
 use Rattle.std.proofs.lemmas.Bool.Decides.{nat_tests}
 use Rattle.std.proofs.Math.ListN.{drop_of_length-le}
-use Rattle.salt_glob.specs.Globs.{pieces, more, is_star, Matches, Glob, MatchesAt, MatchesLater, piece_at, taken_by}
+use Rattle.salt_glob.specs.Globs.{pieces, more, is_star, Matches, Glob, MatchesAt, MatchesLater, piece_at, bytes_taken}
 use Rattle.salt_glob.proofs.Pieces.{pieces_at, hold_nil, taken_some}
 use Rattle.salt_glob.proofs.Searches.{one_back, one_forth, none_holds, star_later, later_star}
 
@@ -18,7 +18,7 @@ pub record Lead (xs ts : List ℕ) (p t : ℕ) : Type 0 where
 pub lead_begin : (xs ts : List ℕ) → Lead xs ts 0 0
 lead_begin xs ts = record { place = omega arith; within = omega arith; back = λ h. h; forth = λ h. h }
 
-pub lead_one : (xs ts : List ℕ) (p t n : ℕ) → p < length xs → t < length ts → taken_by (piece_at xs p) (get_or ts t 0) ≡ Some n → p + n ≤ length xs
+pub lead_one : (xs ts : List ℕ) (p t n : ℕ) → p < length xs → t < length ts → bytes_taken (piece_at xs p) (get_or ts t 0) ≡ Some n → p + n ≤ length xs
     → Lead xs ts p t → Lead xs ts (p + n) (t + 1)
 lead_one xs ts p t n h k e w l = record {
   place = w;
@@ -37,7 +37,7 @@ lead_short xs ts p t h s k l g =
     hold_nil (piece_at xs p) (pieces (drop (p + (more (piece_at xs p) + 1)) xs)) s
     (subst (Matches (piece_at xs p ∷ pieces (drop (p + (more (piece_at xs p) + 1)) xs))) (drop_of_length-le ts k) (subst (λ ps. Matches ps (drop t ts)) (pieces_at xs p h) (l.forth g)))
 
-pub lead_none : (xs ts : List ℕ) (p t : ℕ) → p < length xs → t < length ts → is_star (piece_at xs p) ≡ false → taken_by (piece_at xs p) (get_or ts t 0) ≡ None → Lead xs ts p t → Glob xs ts → ⊥
+pub lead_none : (xs ts : List ℕ) (p t : ℕ) → p < length xs → t < length ts → is_star (piece_at xs p) ≡ false → bytes_taken (piece_at xs p) (get_or ts t 0) ≡ None → Lead xs ts p t → Glob xs ts → ⊥
 lead_none xs ts p t h k s e l g = none_holds xs ts p t k (λ _. s) (λ _. e) (l.forth g)
 
 at_end : (ts : List ℕ) (t : ℕ) → t ≤ length ts → (t == length ts) ≡ true → length ts ≤ t
@@ -59,5 +59,5 @@ above : (m n : ℕ) → m + 1 ≡ n → 0 < n
 above m n e = omega arith
 
 -- a piece has at least one byte
-pub taken_more : (xs : List ℕ) (p b n : ℕ) → taken_by (piece_at xs p) b ≡ Some n → 0 < n
+pub taken_more : (xs : List ℕ) (p b n : ℕ) → bytes_taken (piece_at xs p) b ≡ Some n → 0 < n
 taken_more xs p b n e = above (more (piece_at xs p)) n (taken_some (piece_at xs p) b n e).1

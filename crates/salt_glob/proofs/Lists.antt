@@ -8,7 +8,7 @@ use Rattle.std.proofs.lemmas.List.Folds.{list_any-append}
 use Rattle.std.proofs.lemmas.List.Quantifiers.{position-Some}
 use Rattle.std.proofs.lemmas.Bool.{cases_lt}
 use Rattle.std.proofs.lemmas.Bool.Decides.{nat_tests}
-use Rattle.salt_glob.specs.Classes.{Class, closed}
+use Rattle.salt_glob.specs.Classes.{Class, class_after}
 
 drop_nil : (k : ℕ) → drop k (let xs : List ℕ = [] in xs) ≡ []
 drop_nil zero = refl
@@ -73,20 +73,20 @@ position_none p xs e = none_past _ _ (full p xs e)
 pub second : (xs : List ℕ) (i : ℕ) → drop 1 (drop i xs) ≡ drop (i + 1) xs
 second xs i = drop_add xs i 1
 
-closed_none_of : (negated : Bool) (xs : List ℕ) → list_any closes (drop 1 xs) ≡ false → closed negated xs ≡ None
+closed_none_of : (negated : Bool) (xs : List ℕ) → list_any closes (drop 1 xs) ≡ false → class_after negated xs ≡ None
 closed_none_of negated [] e = refl
 closed_none_of negated (x ∷ xs) e =
     ap (option_map (λ (n : ℕ). let c : Class = record { negated = negated; members = x ∷ take n xs } in c)) (position_none closes xs e)
 
 -- no class is closed where no `]` stands after its first member
-pub closed_none : (negated : Bool) (xs : List ℕ) (first last : ℕ) → LastClose xs last → last ≤ first + 1 → closed negated (drop first xs) ≡ None
+pub closed_none : (negated : Bool) (xs : List ℕ) (first last : ℕ) → LastClose xs last → last ≤ first + 1 → class_after negated (drop first xs) ≡ None
 closed_none negated xs first last h l =
     closed_none_of negated (drop first xs) (ap (list_any closes) (second xs first) ∙ h (first + 1) ∙ grind (arith, nat_tests))
 
 -- and else the first one closes it
 pub closed_at : (negated : Bool) (xs : List ℕ) (first : ℕ) → first < length xs
-    → closed negated (drop first xs) ≡ option_map (λ (n : ℕ). let c : Class = record { negated = negated; members = get_or xs first 0 ∷ take n (drop (first + 1) xs) } in c) (position closes (drop (first + 1) xs))
-closed_at negated xs first h = ap (closed negated) (drop_more xs first 0 h)
+    → class_after negated (drop first xs) ≡ option_map (λ (n : ℕ). let c : Class = record { negated = negated; members = get_or xs first 0 ∷ take n (drop (first + 1) xs) } in c) (position closes (drop (first + 1) xs))
+closed_at negated xs first h = ap (class_after negated) (drop_more xs first 0 h)
 
 members_of : (xs : List ℕ) (first n : ℕ) → first < length xs → slice_range xs first (first + 1 + n) ≡ get_or xs first 0 ∷ take n (drop (first + 1) xs)
 members_of xs first n h =
@@ -95,13 +95,13 @@ members_of xs first n h =
 
 -- the class by its places
 pub closed_some : (negated : Bool) (xs : List ℕ) (first n : ℕ) → first < length xs → position closes (drop (first + 1) xs) ≡ Some n
-    → (let c : Class = record { negated = negated; members = slice_range xs first (first + 1 + n) } in Some c) ≡ closed negated (drop first xs)
+    → (let c : Class = record { negated = negated; members = slice_range xs first (first + 1 + n) } in Some c) ≡ class_after negated (drop first xs)
 closed_some negated xs first n h e =
     ap (λ (ms : List ℕ). let c : Class = record { negated = negated; members = ms } in Some c) (members_of xs first n h)
     ∙ sym (closed_at negated xs first h ∙ ap (option_map (λ (k : ℕ). let c : Class = record { negated = negated; members = get_or xs first 0 ∷ take k (drop (first + 1) xs) } in c)) e)
 
 pub closed_none_found : (negated : Bool) (xs : List ℕ) (first : ℕ) → first < length xs → position closes (drop (first + 1) xs) ≡ None
-    → closed negated (drop first xs) ≡ None
+    → class_after negated (drop first xs) ≡ None
 closed_none_found negated xs first h e =
     closed_at negated xs first h ∙ ap (option_map (λ (k : ℕ). let c : Class = record { negated = negated; members = get_or xs first 0 ∷ take k (drop (first + 1) xs) } in c)) e
 

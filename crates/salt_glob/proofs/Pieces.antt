@@ -6,7 +6,7 @@ use Rattle.std.proofs.lemmas.List.{drop_more, take-append-drop}
 use Rattle.std.proofs.lemmas.Bool.Decides.{nat_tests}
 use Rattle.std.proofs.Math.Seq.{drop-append_seam}
 use Rattle.salt_glob.specs.Classes.{Class, class_of, in_class}
-use Rattle.salt_glob.specs.Globs.{Piece, star, any, set, plain, opened, piece, more, pieces_after, pieces, takes, is_star, Matches, Glob, piece_at, taken_by, is_match, some_suffix, after_first}
+use Rattle.salt_glob.specs.Globs.{Piece, star, any, set, plain, class_piece, piece, more, pieces_after, pieces, takes, is_star, Matches, Glob, piece_at, bytes_taken, is_match, some_suffix, after_first}
 use Rattle.salt_glob.proofs.Lists.{drop_add}
 
 pub pieces_after-drop : (k : ℕ) (p : List ℕ) → pieces_after k p ≡ pieces (drop k p)
@@ -73,11 +73,11 @@ hold_later ps ts t h =
     (t + n, omega arith, subst (Matches ps) left h.3)
 
 -- a byte `*` alone is the piece `*`
-class_not_star : (o : Option Class) → is_star (opened o) ≡ false
+class_not_star : (o : Option Class) → is_star (class_piece o) ≡ false
 class_not_star None = refl
 class_not_star (Some c) = refl
 
-by_tests : (s q c : Bool) (b : ℕ) (o : Option Class) → is_star (if s then star else (if q then any else (if c then opened o else plain b))) ≡ s
+by_tests : (s q c : Bool) (b : ℕ) (o : Option Class) → is_star (if s then star else (if q then any else (if c then class_piece o else plain b))) ≡ s
 by_tests true q c b o = refl
 by_tests false true c b o = refl
 by_tests false false true b o = class_not_star o
@@ -115,10 +115,10 @@ none_of : (c : Bool) (m : ℕ) → (if c then Some m else None) ≡ None → c �
 none_of true m e = absurd cc
 none_of false m e = refl
 
-pub taken_some : (x : Piece) (b n : ℕ) → taken_by x b ≡ Some n → (takes x b ≡ true) × (more x + 1 ≡ n)
+pub taken_some : (x : Piece) (b n : ℕ) → bytes_taken x b ≡ Some n → (takes x b ≡ true) × (more x + 1 ≡ n)
 taken_some x b n e = some_of (takes x b) (more x + 1) n e
 
-pub taken_none : (x : Piece) (b : ℕ) → taken_by x b ≡ None → takes x b ≡ false
+pub taken_none : (x : Piece) (b : ℕ) → bytes_taken x b ≡ None → takes x b ≡ false
 taken_none x b e = none_of (takes x b) (more x + 1) e
 
 -- a pattern holds for the empty text where it is stars alone

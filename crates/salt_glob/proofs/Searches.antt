@@ -4,7 +4,7 @@ use Rattle.std.specs.Prelude.{None, Some}
 use Rattle.std.proofs.lemmas.List.{drop_more}
 use Rattle.std.proofs.lemmas.Bool.{cases_lt}
 use Rattle.std.proofs.Math.ListN.{drop_of_length-le}
-use Rattle.salt_glob.specs.Globs.{Piece, star, more, pieces, takes, is_star, Matches, Glob, MatchesAt, MatchesLater, piece_at, taken_by}
+use Rattle.salt_glob.specs.Globs.{Piece, star, more, pieces, takes, is_star, Matches, Glob, MatchesAt, MatchesLater, piece_at, bytes_taken}
 use Rattle.salt_glob.proofs.Pieces.{pieces_at, hold_one, hold_rest, hold_nil, hold_star, hold_later, star_at, taking_no_star, taken_some, taken_none}
 
 -- Where the search stands: the pattern and the text from `p` and `t` on, and where the last `*` lets it go on.
@@ -89,11 +89,11 @@ search_star xs ts after from after' from' p t k e s = let h : p < length xs = om
 }
 
 -- a piece that takes the byte
-one_pieces : (xs : List ℕ) (p b n : ℕ) → p < length xs → taken_by (piece_at xs p) b ≡ Some n → pieces (drop p xs) ≡ piece_at xs p ∷ pieces (drop (p + n) xs)
+one_pieces : (xs : List ℕ) (p b n : ℕ) → p < length xs → bytes_taken (piece_at xs p) b ≡ Some n → pieces (drop p xs) ≡ piece_at xs p ∷ pieces (drop (p + n) xs)
 one_pieces xs p b n h e =
     pieces_at xs p h ∙ ap (λ (k : ℕ). piece_at xs p ∷ pieces (drop (p + k) xs)) (taken_some (piece_at xs p) b n e).1
 
-pub one_back : (xs ts : List ℕ) (p t n : ℕ) → p < length xs → t < length ts → taken_by (piece_at xs p) (get_or ts t 0) ≡ Some n
+pub one_back : (xs ts : List ℕ) (p t n : ℕ) → p < length xs → t < length ts → bytes_taken (piece_at xs p) (get_or ts t 0) ≡ Some n
     → MatchesAt xs ts (p + n) (t + 1) → MatchesAt xs ts p t
 one_back xs ts p t n h k e g =
     let x = piece_at xs p in
@@ -102,7 +102,7 @@ one_back xs ts p t n h k e g =
     (subst (Matches (x ∷ ps)) (sym (drop_more ts t 0 k)) (hold_one x ps (get_or ts t 0) (drop (t + 1) ts) (taken_some x (get_or ts t 0) n e).0 g))
 
 -- wherever such a piece holds, those after it hold one byte later
-pub one_forth : (xs ts : List ℕ) (p t n b : ℕ) → p < length xs → taken_by (piece_at xs p) b ≡ Some n
+pub one_forth : (xs ts : List ℕ) (p t n b : ℕ) → p < length xs → bytes_taken (piece_at xs p) b ≡ Some n
     → MatchesAt xs ts p t → MatchesAt xs ts (p + n) (t + 1)
 one_forth xs ts p t n b h e g = elim (cases_lt t (length ts)) [
   | inl k ↦ (hold_rest (piece_at xs p) (pieces (drop (p + n) xs)) (get_or ts t 0) (drop (t + 1) ts) (taking_no_star (piece_at xs p) b (taken_some (piece_at xs p) b n e).0)
@@ -111,7 +111,7 @@ one_forth xs ts p t n b h e g = elim (cases_lt t (length ts)) [
       (subst (Matches (piece_at xs p ∷ pieces (drop (p + n) xs))) (drop_of_length-le ts k) (subst (λ (qs : List Piece). Matches qs (drop t ts)) (one_pieces xs p b n h e) g)))
 ]
 
-pub search_one : (xs ts : List ℕ) (after from after' from' p t n : ℕ) → p < length xs → t < length ts → taken_by (piece_at xs p) (get_or ts t 0) ≡ Some n → p + n ≤ length xs
+pub search_one : (xs ts : List ℕ) (after from after' from' p t n : ℕ) → p < length xs → t < length ts → bytes_taken (piece_at xs p) (get_or ts t 0) ≡ Some n → p + n ≤ length xs
     → Search xs ts after from after' from' p t → Search xs ts after from after' from' (p + n) (t + 1)
 search_one xs ts after from after' from' p t n h k e w s =
     let le = s.last in
@@ -128,7 +128,7 @@ search_one xs ts after from after' from' p t n h k e w s =
     }
 
 -- nothing that stands there takes the byte
-pub none_holds : (xs ts : List ℕ) (p t : ℕ) → t < length ts → (p < length xs → is_star (piece_at xs p) ≡ false) → (p < length xs → taken_by (piece_at xs p) (get_or ts t 0) ≡ None)
+pub none_holds : (xs ts : List ℕ) (p t : ℕ) → t < length ts → (p < length xs → is_star (piece_at xs p) ≡ false) → (p < length xs → bytes_taken (piece_at xs p) (get_or ts t 0) ≡ None)
     → MatchesAt xs ts p t → ⊥
 none_holds xs ts p t k single none g = elim (cases_lt p (length xs)) [
   | inl h ↦ let r = hold_rest (piece_at xs p) (pieces (drop (p + (more (piece_at xs p) + 1)) xs)) (get_or ts t 0) (drop (t + 1) ts) (single h)

@@ -4,7 +4,7 @@ use Rattle.std.specs.Prelude.{if◌then◌else◌, Option, None, Some, IfSome, I
 use Rattle.std.proofs.lemmas.Bool.{cases_lt}
 use Rattle.std.proofs.lemmas.Bool.Decides.{nat_tests}
 use Rattle.std.proofs.Math.ListN.{drop_of_length-le}
-use Rattle.salt_glob.specs.Globs.{Piece, plain, more, pieces, is_star, Matches, MatchesAt, piece_at, taken_by}
+use Rattle.salt_glob.specs.Globs.{Piece, plain, more, pieces, is_star, Matches, MatchesAt, piece_at, bytes_taken}
 use Rattle.salt_glob.proofs.Pieces.{pieces_at, hold_nil}
 use Rattle.salt_glob.proofs.Searches.{none_holds}
 use Rattle.salt_glob.proofs.Fronts.{other_piece}
@@ -12,7 +12,7 @@ use Rattle.salt_glob.proofs.Fronts.{other_piece}
 differ : (a b : ℕ) → a ≢ b → (a == b) ≡ false
 differ a b h = grind (arith, nat_tests)
 
-plain_takes_none : (x b : ℕ) → b ≢ x → taken_by (plain x) b ≡ None
+plain_takes_none : (x b : ℕ) → b ≢ x → bytes_taken (plain x) b ≡ None
 plain_takes_none x b h = ap (λ (c : Bool). if c then Some (0 + 1) else None) (differ b x h)
 
 -- a byte that stands for itself holds at no place where it does not stand
@@ -23,7 +23,7 @@ no_start xs ts p u h s q c other g =
     let same : piece_at xs p ≡ plain x = other_piece x (drop (p + 1) xs) s q c in
     let single : is_star (piece_at xs p) ≡ false = ap is_star same in
     elim (cases_lt u (length ts)) [
-      | inl k ↦ none_holds xs ts p u k (λ _. single) (λ _. ap (λ (y : Piece). taken_by y (get_or ts u 0)) same ∙ plain_takes_none x (get_or ts u 0) (other k)) g
+      | inl k ↦ none_holds xs ts p u k (λ _. single) (λ _. ap (λ (y : Piece). bytes_taken y (get_or ts u 0)) same ∙ plain_takes_none x (get_or ts u 0) (other k)) g
       | inr k ↦ hold_nil (piece_at xs p) (pieces (drop (p + (more (piece_at xs p) + 1)) xs)) single
           (subst (Matches (piece_at xs p ∷ pieces (drop (p + (more (piece_at xs p) + 1)) xs))) (drop_of_length-le ts k) (subst (λ (ps : List Piece). Matches ps (drop u ts)) (pieces_at xs p h) g))
     ]

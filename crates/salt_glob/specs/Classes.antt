@@ -8,15 +8,15 @@ pub record Class : Type 0 where
   pub members : List ℕ
 
 -- the bytes before the first `]` that is not the first of them, if there is one
-abbrev pub closed : Bool → List ℕ → Option Class
-closed negated [] = None
-closed negated (first ∷ rest) =
+abbrev pub class_after : Bool → List ℕ → Option Class
+class_after negated [] = None
+class_after negated (first ∷ rest) =
     option_map (λ n. record { negated = negated; members = first ∷ take n rest }) (position (λ b. b == 93) rest)
 
 -- the class that a `[` before this text opens, if a `]` closes it
 abbrev pub class_of : List ℕ → Option Class
 class_of [] = None
-class_of (b ∷ rest) = if b == 33 then closed true rest else closed false (b ∷ rest)
+class_of (b ∷ rest) = if b == 33 then class_after true rest else class_after false (b ∷ rest)
 
 -- how many bytes of the pattern a class has after its `[`
 abbrev pub class_size : Class → ℕ

@@ -10,13 +10,13 @@ pub data Piece : Type 0 where
   plain : ℕ → Piece
 
 -- a `[` opens a class where a `]` closes it, and else stands for itself
-abbrev pub opened : Option Class → Piece
-opened None = plain 91
-opened (Some c) = set c
+abbrev pub class_piece : Option Class → Piece
+class_piece None = plain 91
+class_piece (Some c) = set c
 
 -- the piece that begins with this byte, before the rest of the pattern
 abbrev pub piece : ℕ → List ℕ → Piece
-piece b rest = if b == 42 then star else (if b == 63 then any else (if b == 91 then opened (class_of rest) else plain b))
+piece b rest = if b == 42 then star else (if b == 63 then any else (if b == 91 then class_piece (class_of rest) else plain b))
 
 -- how many bytes the piece has after its first
 abbrev pub more : Piece → ℕ
@@ -87,8 +87,8 @@ abbrev pub piece_at : List ℕ → ℕ → Piece
 piece_at pattern at = piece (slice_index pattern at) (drop (at + 1) pattern)
 
 -- How many bytes of the pattern a piece has, where it takes the byte. No public contract cites it.
-abbrev pub taken_by : Piece → ℕ → Option ℕ
-taken_by p b = if takes p b then Some (more p + 1) else None
+abbrev pub bytes_taken : Piece → ℕ → Option ℕ
+bytes_taken p b = if takes p b then Some (more p + 1) else None
 
 -- The pattern from one place on holds for the text from another place on. No public contract cites it.
 abbrev pub MatchesAt : List ℕ → List ℕ → ℕ → ℕ → Type 0

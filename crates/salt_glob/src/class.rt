@@ -18,7 +18,7 @@ pub struct Class {
 fn closed_at(pattern: &Folded, negated: bool, first: usize, last: usize) -> Option<Class>
     requires bound { last ≤ length pattern.now }
     requires closes { (k : ℕ) → list_any (λ b. b == 93) (drop k pattern.now) ≡ nat_lt k last }
-    ensures value { option_map (spec.class_in pattern.now) result ≡ spec.closed negated (drop first pattern.now) }
+    ensures value { option_map (spec.class_in pattern.now) result ≡ spec.class_after negated (drop first pattern.now) }
     ensures places { IfSome result (λ c. (c.negated ≡ negated) × (c.first ≡ first) × (c.first < c.end) × (c.end < length pattern.now)) }
 {
     if last < 2 {

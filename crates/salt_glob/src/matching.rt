@@ -13,7 +13,7 @@ fn taken(pattern: &Folded, at: usize, last: usize, byte: u8) -> Option<usize>
     requires at { at < length pattern.now }
     requires bound { last ≤ length pattern.now }
     requires closes { (k : ℕ) → list_any (λ b. b == 93) (drop k pattern.now) ≡ nat_lt k last }
-    ensures value { result ≡ spec.taken_by (spec.piece_at pattern.now at) byte }
+    ensures value { result ≡ spec.bytes_taken (spec.piece_at pattern.now at) byte }
     ensures within { IfSome result (λ n. at + n ≤ length pattern.now) }
 {
     let front = pattern.at(at);
@@ -41,8 +41,8 @@ fn taken(pattern: &Folded, at: usize, last: usize, byte: u8) -> Option<usize>
 fn taken_or_end(pattern: &Folded, at: usize, last: usize, byte: u8) -> Option<usize>
     requires bound { last ≤ length pattern.now }
     requires closes { (k : ℕ) → list_any (λ b. b == 93) (drop k pattern.now) ≡ nat_lt k last }
-    ensures some { IfSome result (λ n. (at < length pattern.now) × (spec.taken_by (spec.piece_at pattern.now at) byte ≡ Some n) × (at + n ≤ length pattern.now)) }
-    ensures none { IfNone result (at < length pattern.now → spec.taken_by (spec.piece_at pattern.now at) byte ≡ None) }
+    ensures some { IfSome result (λ n. (at < length pattern.now) × (spec.bytes_taken (spec.piece_at pattern.now at) byte ≡ Some n) × (at + n ≤ length pattern.now)) }
+    ensures none { IfNone result (at < length pattern.now → spec.bytes_taken (spec.piece_at pattern.now at) byte ≡ None) }
 {
     if at < pattern.len() {
         taken(pattern, at, last, byte)

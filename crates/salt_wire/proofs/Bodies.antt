@@ -12,7 +12,7 @@ use Rattle.salt_wire.specs.declared.fault.WireFault.TheVariants as faults
 use Rattle.salt_wire.specs.declared.message.Message.{Message}
 use Rattle.salt_wire.specs.Spelling.{body, kind_and_fields as spelled}
 use Rattle.salt_wire.specs.Limits.{Within}
-use Rattle.salt_wire.specs.Decoding.{kind_and_fields, nothing_after, message_at, wire_fault, body_answer, decoded, up_to, field_at}
+use Rattle.salt_wire.specs.Decoding.{kind_and_fields, nothing_after, message_at, wire_fault, body_answer, decoded, with_place, field_at}
 use Rattle.salt_wire.specs.FirstFault.{Wrong, FaultAt, IsTold}
 use Rattle.salt_wire.specs.RoundTrip.{IsReadBack, Spans}
 use Rattle.salt_wire.proofs.Codec.{bind_ok, ok_is}
@@ -64,17 +64,17 @@ module _ {A : Type 0} (spell : A → List ℕ) (Right : A → Type 0) (read : Re
   field_again b at x rest le h e =
       let len : length b - at ≡ length (spell x) + length rest = sym (length-drop at b) ∙ ap length e ∙ length-append (spell x) rest in
       let place : length b - length rest ≡ at + length (spell x) = omega (arith, len, le) in
-      ap (λ r. body_answer (length b) (r >>= λ x. Ok (up_to (length b) x))) (ap read e ∙ law.written x rest h) ∙ ap (λ (n : ℕ). Ok (x, n)) place
+      ap (λ r. body_answer (length b) (r >>= λ x. Ok (with_place (length b) x))) (ap read e ∙ law.written x rest h) ∙ ap (λ (n : ℕ). Ok (x, n)) place
 
   pub field_took : (b : List ℕ) (at : ℕ) (r : Result (A × ℕ) WireFault) → IsBytes b → at ≤ length b → Answers faults.NoMemory r (field_at read b at) → IfOk r (λ x. Right x.0 × Spans spell b at x)
   unfolding field_at
   field_took b at (Err f) h le given = tt
   field_took b at (Ok y) h le given =
-      let a = bind_ok (read (drop at b)) (λ x. Ok (up_to (length b) x)) y (body_answer_ok (length b) _ y given) in
+      let a = bind_ok (read (drop at b)) (λ x. Ok (with_place (length b) x)) y (body_answer_ok (length b) _ y given) in
       let t = law.took (drop at b) a.0 (λ i. rw get_or-drop (h (at + i))) a.1 in
       let len : length b - at ≡ length (spell a.0.0) + length a.0.1 = sym (length-drop at b) ∙ ap length t.1 ∙ length-append (spell a.0.0) a.0.1 in
       let place : length b - length a.0.1 ≡ at + length (spell a.0.0) = omega (arith, len, le) in
-      let made : A × ℕ = up_to (length b) a.0 in
+      let made : A × ℕ = with_place (length b) a.0 in
       subst (λ (x : A × ℕ). Right x.0 × Spans spell b at x) (ok_is made y a.2) (t.0, (place, (a.0.1, t.1)))
 
 -- what is the answer is an answer
@@ -84,13 +84,13 @@ answers (Err f) s e = inr (sym e)
 
 -- what a reader gave at a place of a body, with the place after it, is that field
 module _ {X A : Type 0} (view : X → A × List ℕ) (read : Reader Misread A) (b : List ℕ) (at : ℕ) (out : Result (A × ℕ) WireFault) where
-  told : (s : Result (A × List ℕ) Misread) → read (take (length b - at) (drop at b)) ≡ s → out ≡ body_answer (length b) (s >>= λ x. Ok (up_to (length b) x)) → out ≡ field_at read b at
+  told : (s : Result (A × List ℕ) Misread) → read (take (length b - at) (drop at b)) ≡ s → out ≡ body_answer (length b) (s >>= λ x. Ok (with_place (length b) x)) → out ≡ field_at read b at
   unfolding field_at
   told s given e =
       let whole : take (length b - at) (drop at b) ≡ drop at b = take_all (length b - at) (drop at b) (omega (arith, length-drop at b)) in
-      e ∙ ap (λ (s : Result (A × List ℕ) Misread). body_answer (length b) (s >>= λ x. Ok (up_to (length b) x))) (sym given ∙ ap read whole)
+      e ∙ ap (λ (s : Result (A × List ℕ) Misread). body_answer (length b) (s >>= λ x. Ok (with_place (length b) x))) (sym given ∙ ap read whole)
 
-  pub is_field : (r : Result X Misread) → Gives NoMemory view r (read (take (length b - at) (drop at b))) → IfOk r (λ x. out ≡ Ok (up_to (length b) (view x))) → IfErr r (λ e. out ≡ Err (wire_fault (length b) e)) → Answers faults.NoMemory out (field_at read b at)
+  pub is_field : (r : Result X Misread) → Gives NoMemory view r (read (take (length b - at) (drop at b))) → IfOk r (λ x. out ≡ Ok (with_place (length b) (view x))) → IfErr r (λ e. out ≡ Err (wire_fault (length b) e)) → Answers faults.NoMemory out (field_at read b at)
   is_field (Ok x) given ok err = answers out _ (told (Ok (view x)) given ok)
   is_field (Err f) (inl h) ok err = subst (λ (o : Result (A × ℕ) WireFault). Answers faults.NoMemory o (field_at read b at)) (sym err) (inl (ap (wire_fault (length b)) h))
   is_field (Err f) (inr h) ok err = answers out _ (told (Err f) h err)
@@ -103,7 +103,7 @@ module _ {A : Type 0} (wrong : Wrong) (read : Reader Misread A) (tells : IsTold 
   field_err : (f : WireFault) → field_at read b at ≡ Err f → (e : Misread) × (read (drop at b) ≡ Err e) × (f ≡ wire_fault (length b) e)
   unfolding field_at
   field_err f q = by (read (drop at b)) q where
-    by : (r : Result (A × List ℕ) Misread) → body_answer (length b) (r >>= λ x. Ok (up_to (length b) x)) ≡ Err f → (e : Misread) × (r ≡ Err e) × (f ≡ wire_fault (length b) e)
+    by : (r : Result (A × List ℕ) Misread) → body_answer (length b) (r >>= λ x. Ok (with_place (length b) x)) ≡ Err f → (e : Misread) × (r ≡ Err e) × (f ≡ wire_fault (length b) e)
     by (Ok x) q = absurd cc
     by (Err e) q = (e, refl, cc)
 
@@ -128,5 +128,5 @@ module _ {A : Type 0} (wrong : Wrong) (read : Reader Misread A) (tells : IsTold 
   met_at faults.BadVersion w = absurd w
   met_at faults.BadKind w = absurd w
   met_at (faults.BadField place) w =
-      ap (λ (r : Result (A × List ℕ) Misread). body_answer (length b) (r >>= λ x. Ok (up_to (length b) x))) (tells.first (drop at b) w.0 rest_fits w.1) ∙ ap (λ (n : ℕ). Err (faults.BadField n)) (sym w.2)
+      ap (λ (r : Result (A × List ℕ) Misread). body_answer (length b) (r >>= λ x. Ok (with_place (length b) x))) (tells.first (drop at b) w.0 rest_fits w.1) ∙ ap (λ (n : ℕ). Err (faults.BadField n)) (sym w.2)
   met_at (faults.Trailing place) w = absurd w

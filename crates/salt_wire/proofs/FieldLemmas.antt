@@ -9,11 +9,11 @@ use Rattle.std.proofs.lemmas.Bool.Decides.{nat_tests}
 use Rattle.std.proofs.lemmas.Bool.{eqb-true}
 use Rattle.salt_value.specs.Readers.{◌>>=◌, found}
 use Rattle.salt_value.specs.Word.{is_word_byte}
-use Rattle.target_tree.specs.Kinds.{TheKind, code_of}
+use Rattle.target_tree.specs.Kinds.{TheKind, kind_code}
 use Rattle.target_tree.specs.declared.kind.Kind.{Kind}
 use Rattle.target_tree.specs.declared.kind.Kind.TheVariants as k
 use Rattle.salt_wire.specs.declared.fault.Misread.{Misread}
-use Rattle.salt_wire.specs.Decoding.{is_word, bad, byte_field, kinds, kind_of, kind_field}
+use Rattle.salt_wire.specs.Decoding.{is_word, misread, byte_field, kinds, kind_of, kind_field}
 
 and_first : (a b : Bool) → (a && b) ≡ true → a ≡ true
 and_first a b e = grind arith
@@ -35,7 +35,7 @@ not_word xs h = by (is_word xs) refl where
   by true e = absurd (h (IsUtf8-from_ascii xs (IsAscii-from_all xs (all_low xs (and_second _ _ (and_second _ _ e))))))
   by false e = refl
 
-pub kind_of-code : (kind : Kind) → kind_of (code_of kind) ≡ Some kind
+pub kind_of-code : (kind : Kind) → kind_of (kind_code kind) ≡ Some kind
 unfolding kind_of
 kind_of-code k.Glob = refl
 kind_of-code k.Pcre = refl
@@ -55,12 +55,12 @@ find_passes test (y ∷ xs) x e = by (test y) refl (find_passes test xs x) e whe
   by true t more e = let same : y ≡ x = cc in subst (λ z. test z ≡ true) same t
   by false t more e = more e
 
-pub kind_of-is : (code : ℕ) (kind : Kind) → kind_of code ≡ Some kind → code_of kind ≡ code
+pub kind_of-is : (code : ℕ) (kind : Kind) → kind_of code ≡ Some kind → kind_code kind ≡ code
 unfolding kind_of
-kind_of-is code kind e = eqb-true (code_of kind) code (find_passes (λ kind. eqb (code_of kind) code) kinds kind e)
+kind_of-is code kind e = eqb-true (kind_code kind) code (find_passes (λ kind. eqb (kind_code kind) code) kinds kind e)
 
 -- the one kind of a code is that of the table
-the_kind : (code : ℕ) (r : Option Kind) → TheKind (λ kind. code_of kind ≡ code) r → r ≡ kind_of code
+the_kind : (code : ℕ) (r : Option Kind) → TheKind (λ kind. kind_code kind ≡ code) r → r ≡ kind_of code
 the_kind code None h = by (kind_of code) refl where
   by : (r : Option Kind) → kind_of code ≡ r → None ≡ r
   by None e = refl
@@ -68,7 +68,7 @@ the_kind code None h = by (kind_of code) refl where
 the_kind code (Some kind) h = subst (λ c. Some kind ≡ kind_of c) h.0 (sym (kind_of-code kind))
 
 -- the kind that the table has for a byte is what is read
-pub kind_read : (bytes rest : List ℕ) (code : ℕ) (r : Option Kind) → byte_field bytes ≡ Ok (code, rest) → TheKind (λ kind. code_of kind ≡ code) r → kind_field bytes ≡ found (bad bytes) r rest
+pub kind_read : (bytes rest : List ℕ) (code : ℕ) (r : Option Kind) → byte_field bytes ≡ Ok (code, rest) → TheKind (λ kind. kind_code kind ≡ code) r → kind_field bytes ≡ found (misread bytes) r rest
 unfolding kind_field
 kind_read bytes rest code r e h =
-    ap (λ (read : Result (ℕ × List ℕ) Misread). read >>= λ code. found (bad bytes) (kind_of code.0) code.1) e ∙ ap (λ (kind : Option Kind). found (bad bytes) kind rest) (sym (the_kind code r h))
+    ap (λ (read : Result (ℕ × List ℕ) Misread). read >>= λ code. found (misread bytes) (kind_of code.0) code.1) e ∙ ap (λ (kind : Option Kind). found (misread bytes) kind rest) (sym (the_kind code r h))

@@ -18,9 +18,9 @@ use Rattle.salt_wire.specs.declared.message.Entry.{Entry}
 use Rattle.salt_wire.specs.declared.message.Entry.TheVariants as en
 use Rattle.salt_wire.specs.declared.message.Message.{Message}
 use Rattle.salt_wire.specs.declared.message.Message.TheVariants as m
-use Rattle.salt_wire.specs.Spelling.{number, id, word, tree, job, entry, kind_and_fields as spelled}
+use Rattle.salt_wire.specs.Spelling.{number, id, word, tree_bytes, job, entry, kind_and_fields as spelled}
 use Rattle.salt_wire.specs.Limits.{IsNumber, IsText, TreeFits, JobFits, EntryFits, is_status, Within}
-use Rattle.salt_wire.specs.Decoding.{bad, byte_field, number_field, text_field, short_text, id_field, word_field, jid_field, kind_field, value_field, items_field, fields_field, return_at, fired_at, start_at, mine_at, entry_after, entry_field, tree_field, job_field, pub_fields, have_fields, up_fields, up_have_fields, hello_fields, ask_publish_fields, ask_report_fields, ask_mine_fields, status_field, answer_fields, client_fields, fields_of, kind_and_fields}
+use Rattle.salt_wire.specs.Decoding.{misread, byte_field, number_field, text_field, short_text, id_field, word_field, jid_field, kind_field, value_field, items_field, fields_field, return_at, fired_at, start_at, mine_at, entry_after, entry_field, tree_field, job_field, pub_fields, have_fields, up_fields, up_have_fields, hello_fields, ask_publish_fields, ask_report_fields, ask_mine_fields, status_field, answer_fields, client_fields, message_fields, kind_and_fields}
 use Rattle.salt_wire.specs.RoundTrip.{Took, IsReadBack}
 use Rattle.salt_wire.proofs.Codec.{Lower, one_byte, IsByte, code, AnyKind, micros, IsJid, list_bytes, ListFits, map_bytes, MapFits, IsShortText, bind_ok, ok_is, when_ok, join, step, again, again_last, numbers, a_byte, texts, short_texts, ids, words, jids, kinds, values, lists, maps}
 
@@ -31,7 +31,7 @@ choose {C} n k r s x e = by (eqb n k) (eqb-true n k) e where
   by true h e = inl (h refl, e)
   by false h e = inr e
 
-module _ (l : Lower) (trees : IsReadBack tree TreeFits tree_field) where
+module _ (l : Lower) (trees : IsReadBack tree_bytes TreeFits tree_field) where
   -- ---- entries
 
   return_took : (b : List ℕ) (x : Entry × List ℕ) → IsBytes b → return_at b ≡ Ok x → Took entry EntryFits (1 ∷ b) x
@@ -141,19 +141,19 @@ module _ (l : Lower) (trees : IsReadBack tree TreeFits tree_field) where
       let s1 = step micros IsJid jid_field (jids l) _ b x h e in
       let s2 = step code AnyKind kind_field (kinds l) _ s1.rest x s1.are_bytes s1.gives in
       let s3 = step text (IsShortText 4096) (short_text 4096) (short_texts l 4096) _ s2.rest x s2.are_bytes s2.gives in
-      let s4 = step tree TreeFits tree_field trees _ s3.rest x s3.are_bytes s3.gives in
+      let s4 = step tree_bytes TreeFits tree_field trees _ s3.rest x s3.are_bytes s3.gives in
       let s5 = step word IsWord word_field (words l) _ s4.rest x s4.are_bytes s4.gives in
       let s6 = step list_bytes ListFits items_field (lists l) _ s5.rest x s5.are_bytes s5.gives in
       let made : Job × List ℕ = (record { jid = s1.it; kind = s2.it; tgt = s3.it; target = s4.it; fun = s5.it; args = s6.it }, s6.rest) in
-      subst (Took job JobFits b) {x = made} (ok_is made x s6.gives) (record { jid = s1.right; tgt = s3.right.0; tgt_long = s3.right.1; target = s4.right; fun = s5.right; args = s6.right }, (join b (micros s1.it) s1.rest (code s2.it ++ (text s3.it ++ (tree s4.it ++ (word s5.it ++ (list_bytes s6.it))))) s6.rest s1.parts (join s1.rest (code s2.it) s2.rest (text s3.it ++ (tree s4.it ++ (word s5.it ++ (list_bytes s6.it)))) s6.rest s2.parts (join s2.rest (text s3.it) s3.rest (tree s4.it ++ (word s5.it ++ (list_bytes s6.it))) s6.rest s3.parts (join s3.rest (tree s4.it) s4.rest (word s5.it ++ (list_bytes s6.it)) s6.rest s4.parts (join s4.rest (word s5.it) s5.rest (list_bytes s6.it) s6.rest s5.parts s6.parts))))), s6.are_bytes)
+      subst (Took job JobFits b) {x = made} (ok_is made x s6.gives) (record { jid = s1.right; tgt = s3.right.0; tgt_long = s3.right.1; target = s4.right; fun = s5.right; args = s6.right }, (join b (micros s1.it) s1.rest (code s2.it ++ (text s3.it ++ (tree_bytes s4.it ++ (word s5.it ++ (list_bytes s6.it))))) s6.rest s1.parts (join s1.rest (code s2.it) s2.rest (text s3.it ++ (tree_bytes s4.it ++ (word s5.it ++ (list_bytes s6.it)))) s6.rest s2.parts (join s2.rest (text s3.it) s3.rest (tree_bytes s4.it ++ (word s5.it ++ (list_bytes s6.it))) s6.rest s3.parts (join s3.rest (tree_bytes s4.it) s4.rest (word s5.it ++ (list_bytes s6.it)) s6.rest s4.parts (join s4.rest (word s5.it) s5.rest (list_bytes s6.it) s6.rest s5.parts s6.parts))))), s6.are_bytes)
 
-  job_written : (j : Job) (rest : List ℕ) → JobFits j → job_field (((micros j.jid) ++ ((code j.kind) ++ ((text j.tgt) ++ ((tree j.target) ++ ((word j.fun) ++ (list_bytes j.args)))))) ++ rest) ≡ Ok (j, rest)
+  job_written : (j : Job) (rest : List ℕ) → JobFits j → job_field (((micros j.jid) ++ ((code j.kind) ++ ((text j.tgt) ++ ((tree_bytes j.target) ++ ((word j.fun) ++ (list_bytes j.args)))))) ++ rest) ≡ Ok (j, rest)
   unfolding job_field
   job_written j rest h =
-      again micros IsJid jid_field (jids l) _ j.jid ((code j.kind) ++ ((text j.tgt) ++ ((tree j.target) ++ ((word j.fun) ++ (list_bytes j.args))))) rest h.jid
-      ∙ again code AnyKind kind_field (kinds l) _ j.kind ((text j.tgt) ++ ((tree j.target) ++ ((word j.fun) ++ (list_bytes j.args)))) rest tt
-      ∙ again text (IsShortText 4096) (short_text 4096) (short_texts l 4096) _ j.tgt ((tree j.target) ++ ((word j.fun) ++ (list_bytes j.args))) rest (h.tgt, h.tgt_long)
-      ∙ again tree TreeFits tree_field trees _ j.target ((word j.fun) ++ (list_bytes j.args)) rest h.target
+      again micros IsJid jid_field (jids l) _ j.jid ((code j.kind) ++ ((text j.tgt) ++ ((tree_bytes j.target) ++ ((word j.fun) ++ (list_bytes j.args))))) rest h.jid
+      ∙ again code AnyKind kind_field (kinds l) _ j.kind ((text j.tgt) ++ ((tree_bytes j.target) ++ ((word j.fun) ++ (list_bytes j.args)))) rest tt
+      ∙ again text (IsShortText 4096) (short_text 4096) (short_texts l 4096) _ j.tgt ((tree_bytes j.target) ++ ((word j.fun) ++ (list_bytes j.args))) rest (h.tgt, h.tgt_long)
+      ∙ again tree_bytes TreeFits tree_field trees _ j.target ((word j.fun) ++ (list_bytes j.args)) rest h.target
       ∙ again word IsWord word_field (words l) _ j.fun (list_bytes j.args) rest h.fun
       ∙ again_last list_bytes ListFits items_field (lists l) _ j.args rest h.args
 
@@ -170,8 +170,8 @@ module _ (l : Lower) (trees : IsReadBack tree TreeFits tree_field) where
   statuses = record {
     written = λ n rest h. rw ((a_byte l).written n rest (status_low n h), h) refl;
     took = λ b x h e.
-        let a = bind_ok (byte_field b) (λ status. when (is_status status.0) (bad b) status) x e in
-        let w = when_ok (is_status a.0.0) (bad b) a.0 x a.2 in
+        let a = bind_ok (byte_field b) (λ status. when (is_status status.0) (misread b) status) x e in
+        let w = when_ok (is_status a.0.0) (misread b) a.0 x a.2 in
         let t = (a_byte l).took b a.0 h a.1 in
         subst (λ (y : ℕ × List ℕ). Took one_byte IsStatus b y) w.1 (w.0, t.1, t.2);
   } where
@@ -278,8 +278,8 @@ module _ (l : Lower) (trees : IsReadBack tree TreeFits tree_field) where
             ]
       ]
 
-  fields_took : (kind : ℕ) (b : List ℕ) (x : Message × List ℕ) → IsBytes b → fields_of kind b ≡ Ok x → Took spelled Within (kind ∷ b) x
-  unfolding fields_of
+  fields_took : (kind : ℕ) (b : List ℕ) (x : Message × List ℕ) → IsBytes b → message_fields kind b ≡ Ok x → Took spelled Within (kind ∷ b) x
+  unfolding message_fields
   fields_took kind b x h e =
       elim (choose kind 1 _ _ x e) [
         | inl g ↦ of_kind kind 1 b x g.0 (pub_took b x h g.1)
@@ -364,7 +364,7 @@ module _ (l : Lower) (trees : IsReadBack tree TreeFits tree_field) where
       ∙ again_last text (IsShortText 1000000) (short_text 1000000) (short_texts l 1000000) _ report rest (h.1, h.2)
 
   messages_written : (x : Message) (rest : List ℕ) → Within x → kind_and_fields (spelled x ++ rest) ≡ Ok (x, rest)
-  unfolding kind_and_fields fields_of client_fields
+  unfolding kind_and_fields message_fields client_fields
   messages_written (m.Pub seq j) rest h = pub_written seq j rest h
   messages_written (m.Have n) rest h = have_written n rest h
   messages_written (m.Up minion n x) rest h = up_written minion n x rest h

@@ -14,9 +14,9 @@ use Rattle.target_tree.specs.declared.target.Target.TheOpen.{Target-F}
 use Rattle.salt_wire.specs.declared.fault.Misread.{Misread}
 use Rattle.salt_wire.specs.declared.fault.Misread.TheVariants.{BadField}
 use Rattle.salt_wire.specs.declared.tree.Room.{Room}
-use Rattle.salt_wire.specs.Spelling.{id, tree, tree_layer}
-use Rattle.salt_wire.specs.Limits.{is_id, is_leaf_text, right, right_layer, nodes, nodes_layer, patterns, patterns_layer, TreeFits}
-use Rattle.salt_wire.specs.Decoding.{bad, byte_field, text_field, id_or, is_pattern_tag, room_after, with_room, tag_field, leaf_text, leaf_ids, is_text_tag, leaf, text_node, list_node, not_node, and_node, or_node, node_after, tree_at, whole_room, tree_field}
+use Rattle.salt_wire.specs.Spelling.{id, tree_bytes, tree_layer}
+use Rattle.salt_wire.specs.Limits.{is_id, is_leaf_text, right, right_layer, nodes, nodes_layer, pattern_count, pattern_count_layer, TreeFits}
+use Rattle.salt_wire.specs.Decoding.{misread, byte_field, text_field, id_or, is_pattern_tag, room_after, with_room, tag_field, leaf_text, leaf_ids, is_text_tag, leaf, text_node, list_node, not_node, and_node, or_node, node_after, tree_at, whole_room, tree_field}
 use Rattle.salt_wire.specs.RoundTrip.{Took, IsReadBack}
 use Rattle.salt_wire.proofs.TreeLayers.{at-IdGlob, at-IdPcre, at-IdList, at-GrainGlob, at-GrainPcre, at-PillarGlob, at-PillarPcre, at-Not, at-And, at-Or}
 use Rattle.salt_wire.proofs.Codec.{Lower, bind_ok, ok_is, when_ok, both, join, one_byte, IsByte, a_byte, texts, ids_or, is_id-IsId, IsId-is_id}
@@ -25,14 +25,14 @@ use Rattle.salt_wire.proofs.WriteLemmas.{both_true}
 -- ---- rooms
 
 abbrev pub made : ℕ → ℕ → ℕ → Room
-made n p s = record { nodes = n; patterns = p; stop = s }
+made n p s = record { nodes = n; pattern_count = p; stop = s }
 
 same_room : (n m p q s : ℕ) → n ≡ m → p ≡ q → made n p s ≡ made m q s
 same_room n m p q s e f = ap₂ (λ (a b : ℕ). made a b s) e f
 
 -- what is left of a room after a tree
 abbrev pub left : Room → Target → Room
-left room x = made (room.nodes - nodes x) (room.patterns - patterns x) room.stop
+left room x = made (room.nodes - nodes x) (room.patterns - pattern_count x) room.stop
 
 abbrev pub cost : ℕ → ℕ
 cost tag = cond (is_pattern_tag tag) 1 0
@@ -81,28 +81,28 @@ enter room tag some enough = by (is_pattern_tag tag) refl where
 
 -- what the definitions say of a leaf with a text
 record Leaf (tag : ℕ) (z : List ℕ → Target) : Type 0 where
-  spelled : (x : List ℕ) → tree (z x) ≡ tag ∷ text x
+  spelled : (x : List ℕ) → tree_bytes (z x) ≡ tag ∷ text x
   rights : (x : List ℕ) → right (z x) ≡ is_leaf_text x
   one : (x : List ℕ) → nodes (z x) ≡ 1
-  pats : (x : List ℕ) → patterns (z x) ≡ cost tag
+  pats : (x : List ℕ) → pattern_count (z x) ≡ cost tag
 
 leaf1 : Leaf 1 t.IdGlob
-leaf1 = record { spelled = at-IdGlob tree_layer; rights = at-IdGlob right_layer; one = at-IdGlob nodes_layer; pats = at-IdGlob patterns_layer }
+leaf1 = record { spelled = at-IdGlob tree_layer; rights = at-IdGlob right_layer; one = at-IdGlob nodes_layer; pats = at-IdGlob pattern_count_layer }
 
 leaf2 : Leaf 2 t.IdPcre
-leaf2 = record { spelled = at-IdPcre tree_layer; rights = at-IdPcre right_layer; one = at-IdPcre nodes_layer; pats = at-IdPcre patterns_layer }
+leaf2 = record { spelled = at-IdPcre tree_layer; rights = at-IdPcre right_layer; one = at-IdPcre nodes_layer; pats = at-IdPcre pattern_count_layer }
 
 leaf4 : Leaf 4 t.GrainGlob
-leaf4 = record { spelled = at-GrainGlob tree_layer; rights = at-GrainGlob right_layer; one = at-GrainGlob nodes_layer; pats = at-GrainGlob patterns_layer }
+leaf4 = record { spelled = at-GrainGlob tree_layer; rights = at-GrainGlob right_layer; one = at-GrainGlob nodes_layer; pats = at-GrainGlob pattern_count_layer }
 
 leaf5 : Leaf 5 t.GrainPcre
-leaf5 = record { spelled = at-GrainPcre tree_layer; rights = at-GrainPcre right_layer; one = at-GrainPcre nodes_layer; pats = at-GrainPcre patterns_layer }
+leaf5 = record { spelled = at-GrainPcre tree_layer; rights = at-GrainPcre right_layer; one = at-GrainPcre nodes_layer; pats = at-GrainPcre pattern_count_layer }
 
 leaf6 : Leaf 6 t.PillarGlob
-leaf6 = record { spelled = at-PillarGlob tree_layer; rights = at-PillarGlob right_layer; one = at-PillarGlob nodes_layer; pats = at-PillarGlob patterns_layer }
+leaf6 = record { spelled = at-PillarGlob tree_layer; rights = at-PillarGlob right_layer; one = at-PillarGlob nodes_layer; pats = at-PillarGlob pattern_count_layer }
 
 leaf7 : Leaf 7 t.PillarPcre
-leaf7 = record { spelled = at-PillarPcre tree_layer; rights = at-PillarPcre right_layer; one = at-PillarPcre nodes_layer; pats = at-PillarPcre patterns_layer }
+leaf7 = record { spelled = at-PillarPcre tree_layer; rights = at-PillarPcre right_layer; one = at-PillarPcre nodes_layer; pats = at-PillarPcre pattern_count_layer }
 
 module _ (l : Lower) where
   -- ---- what is written is read again
@@ -129,7 +129,7 @@ module _ (l : Lower) where
       let a = both_true (leb 1 (length xs)) (leb (length xs) 65535 && list_all is_id xs) h in
       let b = both_true (leb (length xs) 65535) (list_all is_id xs) a.1 in
       let small : length xs ≤ 65535 = leb-true _ _ b.0 in
-      let f = bad ((to_be_bytes w16 (length xs) ++ joined (map id xs)) ++ rest) in
+      let f = misread ((to_be_bytes w16 (length xs) ++ joined (map id xs)) ++ rest) in
       rw (l.numbers_written w16 f (length xs) (joined (map id xs) ++ rest) (omega arith) (omega (arith, small)), several_written f xs rest b.1, a.0, le-leb stop (length rest) le) refl
 
   pub tag_written : (room : Room) (tag : ℕ) (more : List ℕ) → tag < 256 → 1 ≤ room.nodes → cost tag ≤ room.patterns → room.stop ≤ length more
@@ -140,12 +140,12 @@ module _ (l : Lower) where
 
   -- a tree of so many levels is read again
   abbrev Again : ℕ → Target → Type 0
-  Again d z = (room : Room) (rest : List ℕ) → right z ≡ true → nodes z ≤ d → nodes z ≤ room.nodes → patterns z ≤ room.patterns → room.stop ≤ length rest
-      → tree_at d room (tree z ++ rest) ≡ Ok (z, left room z, rest)
+  Again d z = (room : Room) (rest : List ℕ) → right z ≡ true → nodes z ≤ d → nodes z ≤ room.nodes → pattern_count z ≤ room.patterns → room.stop ≤ length rest
+      → tree_at d room (tree_bytes z ++ rest) ≡ Ok (z, left room z, rest)
 
   module _ (d : ℕ) (law : (z : Target) → Again d z) where
-    at_tag : (z : Target) (tag : ℕ) (body rest : List ℕ) (room : Room) (y : Target × Room × List ℕ) → tree z ≡ tag ∷ body → tag < 256 → 1 ≤ room.nodes → cost tag ≤ room.patterns → room.stop ≤ length (body ++ rest)
-        → node_after (tree_at d) tag (made (room.nodes - 1) (room.patterns - cost tag) room.stop) (body ++ rest) ≡ Ok y → tree_at (suc d) room (tree z ++ rest) ≡ Ok y
+    at_tag : (z : Target) (tag : ℕ) (body rest : List ℕ) (room : Room) (y : Target × Room × List ℕ) → tree_bytes z ≡ tag ∷ body → tag < 256 → 1 ≤ room.nodes → cost tag ≤ room.patterns → room.stop ≤ length (body ++ rest)
+        → node_after (tree_at d) tag (made (room.nodes - 1) (room.patterns - cost tag) room.stop) (body ++ rest) ≡ Ok y → tree_at (suc d) room (tree_bytes z ++ rest) ≡ Ok y
     unfolding tree_at
     at_tag z tag body rest room y e lt some enough le h =
         ap (λ (b : List ℕ). tree_at (suc d) room (b ++ rest)) e
@@ -159,7 +159,7 @@ module _ (l : Lower) where
         let some : 1 ≤ room.nodes = omega (arith, few, f.one x) in
         let enough : cost tag ≤ room.patterns = omega (arith, pats, f.pats x) in
         let n : room.nodes - 1 ≡ room.nodes - nodes (z x) = ap (λ k. room.nodes - k) (sym (f.one x)) in
-        let p : room.patterns - cost tag ≡ room.patterns - patterns (z x) = ap (λ k. room.patterns - k) (sym (f.pats x)) in
+        let p : room.patterns - cost tag ≡ room.patterns - pattern_count (z x) = ap (λ k. room.patterns - k) (sym (f.pats x)) in
         at_tag (z x) tag (text x) rest room (z x, left room (z x), rest) (f.spelled x) lt some enough longer
         (step r (text x ++ rest) ∙ ap (λ b. b >>= λ text. Ok (z text.0, r, text.1)) (leaf_text_written room.stop x rest (sym (f.rights x) ∙ h) le)
         ∙ ap (λ (m : Room). Ok (z x, m, rest)) (same_room _ _ _ _ room.stop n p))
@@ -171,7 +171,7 @@ module _ (l : Lower) where
         let body = to_be_bytes w16 (length xs) ++ joined (map id xs) in
         let longer : room.stop ≤ length (body ++ rest) = omega (arith, le, length-append body rest) in
         let one = at-IdList nodes_layer xs in
-        let none = at-IdList patterns_layer xs in
+        let none = at-IdList pattern_count_layer xs in
         at_tag (t.IdList xs) 3 body rest room (t.IdList xs, left room (t.IdList xs), rest) (at-IdList tree_layer xs) (omega arith) (omega (arith, few, one)) (omega arith) longer
         (ap (λ b. b >>= λ ids. Ok (t.IdList ids.0, r, ids.1)) (leaf_ids_written room.stop xs rest (sym (at-IdList right_layer xs) ∙ h) le)
         ∙ ap (λ (m : Room). Ok (t.IdList xs, m, rest)) (same_room _ _ _ _ room.stop (ap (λ k. room.nodes - k) (sym one)) (ap (λ k. room.patterns - k) (sym none))))
@@ -180,10 +180,10 @@ module _ (l : Lower) where
     unfolding node_after not_node
     again_Not x room rest h deep few pats le =
         let r = made (room.nodes - 1) (room.patterns - 0) room.stop in
-        let longer : room.stop ≤ length (tree x ++ rest) = omega (arith, le, length-append (tree x) rest) in
+        let longer : room.stop ≤ length (tree_bytes x ++ rest) = omega (arith, le, length-append (tree_bytes x) rest) in
         let n = at-Not nodes_layer x in
-        let p = at-Not patterns_layer x in
-        at_tag (t.Not x) 8 (tree x) rest room (t.Not x, left room (t.Not x), rest) (at-Not tree_layer x) (omega arith) (omega (arith, few, n)) (omega arith) longer
+        let p = at-Not pattern_count_layer x in
+        at_tag (t.Not x) 8 (tree_bytes x) rest room (t.Not x, left room (t.Not x), rest) (at-Not tree_layer x) (omega arith) (omega (arith, few, n)) (omega arith) longer
         (ap (λ y. y >>= λ only. Ok (t.Not only.0, only.1, only.2)) (law x r rest (sym (at-Not right_layer x) ∙ h) (omega (arith, deep, n)) (omega (arith, few, n)) (omega (arith, pats, p)) le)
         ∙ ap (λ (m : Room). Ok (t.Not x, m, rest)) (same_room _ _ _ _ room.stop (omega (arith, n)) (omega (arith, p))))
 
@@ -194,24 +194,24 @@ module _ (l : Lower) where
     then_second z first = tree_at d first.1 first.2 >>= joined_to z first.0
 
     -- two parts one after the other
-    two : (x y : Target) (room : Room) (rest : List ℕ) → right x ≡ true → right y ≡ true → nodes x + nodes y ≤ d → nodes x + nodes y ≤ room.nodes → patterns x + patterns y ≤ room.patterns → room.stop ≤ length rest
-        → (z : Target → Target → Target) → (tree_at d room ((tree x ++ tree y) ++ rest) >>= then_second z)
+    two : (x y : Target) (room : Room) (rest : List ℕ) → right x ≡ true → right y ≡ true → nodes x + nodes y ≤ d → nodes x + nodes y ≤ room.nodes → pattern_count x + pattern_count y ≤ room.patterns → room.stop ≤ length rest
+        → (z : Target → Target → Target) → (tree_at d room ((tree_bytes x ++ tree_bytes y) ++ rest) >>= then_second z)
         ≡ Ok (z x y, left (left room x) y, rest)
     two x y room rest hx hy deep few pats le z =
-        let longer : room.stop ≤ length (tree y ++ rest) = omega (arith, le, length-append (tree y) rest) in
-        ap (λ (b : List ℕ). tree_at d room b >>= then_second z) (append_assoc (tree x) (tree y) rest)
-        ∙ ap (λ r. r >>= then_second z) (law x room (tree y ++ rest) hx (omega (arith, deep)) (omega (arith, few)) (omega (arith, pats)) longer)
+        let longer : room.stop ≤ length (tree_bytes y ++ rest) = omega (arith, le, length-append (tree_bytes y) rest) in
+        ap (λ (b : List ℕ). tree_at d room b >>= then_second z) (append_assoc (tree_bytes x) (tree_bytes y) rest)
+        ∙ ap (λ r. r >>= then_second z) (law x room (tree_bytes y ++ rest) hx (omega (arith, deep)) (omega (arith, few)) (omega (arith, pats)) longer)
         ∙ ap (λ r. r >>= joined_to z x) (law y (left room x) rest hy (omega (arith, deep)) (omega (arith, few)) (omega (arith, pats)) le)
 
     again_And : (x y : Target) → Again (suc d) (t.And x y)
     unfolding node_after and_node
     again_And x y room rest h deep few pats le =
         let r = made (room.nodes - 1) (room.patterns - 0) room.stop in
-        let longer : room.stop ≤ length ((tree x ++ tree y) ++ rest) = omega (arith, le, length-append (tree x ++ tree y) rest) in
+        let longer : room.stop ≤ length ((tree_bytes x ++ tree_bytes y) ++ rest) = omega (arith, le, length-append (tree_bytes x ++ tree_bytes y) rest) in
         let n = at-And nodes_layer x y in
-        let p = at-And patterns_layer x y in
+        let p = at-And pattern_count_layer x y in
         let hs = both_true (right x) (right y) (sym (at-And right_layer x y) ∙ h) in
-        at_tag (t.And x y) 9 (tree x ++ tree y) rest room (t.And x y, left room (t.And x y), rest) (at-And tree_layer x y) (omega arith) (omega (arith, few, n)) (omega arith) longer
+        at_tag (t.And x y) 9 (tree_bytes x ++ tree_bytes y) rest room (t.And x y, left room (t.And x y), rest) (at-And tree_layer x y) (omega arith) (omega (arith, few, n)) (omega arith) longer
         (two x y r rest hs.0 hs.1 (omega (arith, deep, n)) (omega (arith, few, n)) (omega (arith, pats, p)) le t.And
         ∙ ap (λ (m : Room). Ok (t.And x y, m, rest)) (same_room _ _ _ _ room.stop (omega (arith, n)) (omega (arith, p))))
 
@@ -219,11 +219,11 @@ module _ (l : Lower) where
     unfolding node_after or_node
     again_Or x y room rest h deep few pats le =
         let r = made (room.nodes - 1) (room.patterns - 0) room.stop in
-        let longer : room.stop ≤ length ((tree x ++ tree y) ++ rest) = omega (arith, le, length-append (tree x ++ tree y) rest) in
+        let longer : room.stop ≤ length ((tree_bytes x ++ tree_bytes y) ++ rest) = omega (arith, le, length-append (tree_bytes x ++ tree_bytes y) rest) in
         let n = at-Or nodes_layer x y in
-        let p = at-Or patterns_layer x y in
+        let p = at-Or pattern_count_layer x y in
         let hs = both_true (right x) (right y) (sym (at-Or right_layer x y) ∙ h) in
-        at_tag (t.Or x y) 10 (tree x ++ tree y) rest room (t.Or x y, left room (t.Or x y), rest) (at-Or tree_layer x y) (omega arith) (omega (arith, few, n)) (omega arith) longer
+        at_tag (t.Or x y) 10 (tree_bytes x ++ tree_bytes y) rest room (t.Or x y, left room (t.Or x y), rest) (at-Or tree_layer x y) (omega arith) (omega (arith, few, n)) (omega arith) longer
         (two x y r rest hs.0 hs.1 (omega (arith, deep, n)) (omega (arith, few, n)) (omega (arith, pats, p)) le t.Or
         ∙ ap (λ (m : Room). Ok (t.Or x y, m, rest)) (same_room _ _ _ _ room.stop (omega (arith, n)) (omega (arith, p))))
 
@@ -258,21 +258,21 @@ module _ (l : Lower) where
   tree_again zero z = λ room rest h deep few pats le. absurd (omega (arith, positive z, deep))
   tree_again (suc d) z = subst (Again (suc d)) (roll-out-Target z) (again_layer d (tree_again d) (out-Target z))
 
-  tree_written : (z : Target) (rest : List ℕ) → TreeFits z → tree_field (tree z ++ rest) ≡ Ok (z, rest)
+  tree_written : (z : Target) (rest : List ℕ) → TreeFits z → tree_field (tree_bytes z ++ rest) ≡ Ok (z, rest)
   unfolding tree_field
   tree_written z rest h =
-      let b = tree z ++ rest in
-      let le : length b - 65536 ≤ length rest = omega (arith, length-append (tree z) rest, h.long) in
-      ap (λ r. r >>= λ tree. Ok (tree.0, tree.2)) (tree_again 256 z (whole_room b) rest h.right_leaves h.few_nodes h.few_nodes h.few_patterns le)
+      let b = tree_bytes z ++ rest in
+      let le : length b - 65536 ≤ length rest = omega (arith, length-append (tree_bytes z) rest, h.long) in
+      ap (λ r. r >>= λ tree_bytes. Ok (tree_bytes.0, tree_bytes.2)) (tree_again 256 z (whole_room b) rest h.right_leaves h.few_nodes h.few_nodes h.few_patterns le)
 
   -- ---- what is read was written so
 
   pub record TreeTook (room : Room) (b : List ℕ) (y : Target × Room × List ℕ) : Type 0 where
     rights : right y.0 ≡ true
-    parts : b ≡ tree y.0 ++ y.2
+    parts : b ≡ tree_bytes y.0 ++ y.2
     pub are_bytes : IsBytes y.2
     pub node_count : y.1.nodes + nodes y.0 ≡ room.nodes
-    pattern_count : y.1.patterns + patterns y.0 ≡ room.patterns
+    pattern_count : y.1.patterns + pattern_count y.0 ≡ room.patterns
     stop : y.1.stop ≡ room.stop
     inside : room.stop ≤ length y.2
 
@@ -289,10 +289,10 @@ module _ (l : Lower) where
   pub tag_took : (room : Room) (b : List ℕ) (y : ℕ × Room × List ℕ) → IsBytes b → tag_field room b ≡ Ok y → TagTook room b y
   unfolding tag_field
   tag_took room b y h e =
-      let a = bind_ok (byte_field b) (λ tag. when (leb room.stop (length tag.1)) (bad b) tag >>= λ ended. with_room (bad b) ended (room_after room ended.0)) y e in
-      let w = bind_ok (when (leb room.stop (length a.0.1)) (bad b) a.0) (λ ended. with_room (bad b) ended (room_after room ended.0)) y a.2 in
-      let g = when_ok (leb room.stop (length a.0.1)) (bad b) a.0 w.0 w.1 in
-      let r = with_room_ok (bad b) w.0 (room_after room w.0.0) y w.2 in
+      let a = bind_ok (byte_field b) (λ tag. when (leb room.stop (length tag.1)) (misread b) tag >>= λ ended. with_room (misread b) ended (room_after room ended.0)) y e in
+      let w = bind_ok (when (leb room.stop (length a.0.1)) (misread b) a.0) (λ ended. with_room (misread b) ended (room_after room ended.0)) y a.2 in
+      let g = when_ok (leb room.stop (length a.0.1)) (misread b) a.0 w.0 w.1 in
+      let r = with_room_ok (misread b) w.0 (room_after room w.0.0) y w.2 in
       let t = (a_byte l).took b a.0 h a.1 in
       let same : Took one_byte IsByte b w.0 = subst (λ (x : ℕ × List ℕ). Took one_byte IsByte b x) g.1 t in
       let inside : room.stop ≤ length w.0.1 = subst (λ (x : ℕ × List ℕ). room.stop ≤ length x.1) g.1 (leb-true _ _ g.0) in
@@ -307,8 +307,8 @@ module _ (l : Lower) where
   pub leaf_text_took : (stop : ℕ) (b : List ℕ) (x : List ℕ × List ℕ) → IsBytes b → leaf_text stop b ≡ Ok x → TextTook stop b x
   unfolding leaf_text
   leaf_text_took stop b x h e =
-      let a = bind_ok (text_field b) (λ text. when (leb 1 (length text.0) && (leb (length text.0) 4096 && leb stop (length text.1))) (bad b) text) x e in
-      let w = when_ok (leb 1 (length a.0.0) && (leb (length a.0.0) 4096 && leb stop (length a.0.1))) (bad b) a.0 x a.2 in
+      let a = bind_ok (text_field b) (λ text. when (leb 1 (length text.0) && (leb (length text.0) 4096 && leb stop (length text.1))) (misread b) text) x e in
+      let w = when_ok (leb 1 (length a.0.0) && (leb (length a.0.0) 4096 && leb stop (length a.0.1))) (misread b) a.0 x a.2 in
       let t = (texts l).took b a.0 h a.1 in
       let p = both_true (leb 1 (length a.0.0)) (leb (length a.0.0) 4096 && leb stop (length a.0.1)) w.0 in
       let q = both_true (leb (length a.0.0) 4096) (leb stop (length a.0.1)) p.1 in
@@ -347,12 +347,12 @@ module _ (l : Lower) where
   pub leaf_ids_took : (stop : ℕ) (b : List ℕ) (x : List (List ℕ) × List ℕ) → IsBytes b → leaf_ids stop b ≡ Ok x → IdsTook stop b x
   unfolding leaf_ids
   leaf_ids_took stop b x h e =
-      let a = bind_ok (number_or w16 (bad b) b) (λ count. several (id_or (bad b)) count.0 count.1 >>= λ ids. when (leb 1 count.0 && leb stop (length ids.1)) (bad b) ids) x e in
-      let c = bind_ok (several (id_or (bad b)) a.0.0 a.0.1) (λ ids. when (leb 1 a.0.0 && leb stop (length ids.1)) (bad b) ids) x a.2 in
-      let w = when_ok (leb 1 a.0.0 && leb stop (length c.0.1)) (bad b) c.0 x c.2 in
+      let a = bind_ok (number_or w16 (misread b) b) (λ count. several (id_or (misread b)) count.0 count.1 >>= λ ids. when (leb 1 count.0 && leb stop (length ids.1)) (misread b) ids) x e in
+      let c = bind_ok (several (id_or (misread b)) a.0.0 a.0.1) (λ ids. when (leb 1 a.0.0 && leb stop (length ids.1)) (misread b) ids) x a.2 in
+      let w = when_ok (leb 1 a.0.0 && leb stop (length c.0.1)) (misread b) c.0 x c.2 in
       let p = both_true (leb 1 a.0.0) (leb stop (length c.0.1)) w.0 in
-      let n = l.numbers_read w16 (bad b) b a.0.0 a.0.1 (omega arith) h a.1 in
-      let s = several_took (bad b) a.0.0 a.0.1 c.0 n.2 c.1 in
+      let n = l.numbers_read w16 (misread b) b a.0.0 a.0.1 (omega arith) h a.1 in
+      let s = several_took (misread b) a.0.0 a.0.1 c.0 n.2 c.1 in
       let some : 1 ≤ length c.0.0 = omega (arith, leb-true _ _ p.0, s.count) in
       let small : length c.0.0 ≤ 65535 = omega (arith, n.0, s.count) in
       subst (λ (y : List (List ℕ) × List ℕ). IdsTook stop b y) w.1 (record {
@@ -397,7 +397,7 @@ module _ (l : Lower) where
         parts = ap (λ (r : List ℕ). 3 ∷ r) s.parts ∙ ap (λ (r : List ℕ). r ++ a.0.1) (sym (at-IdList tree_layer a.0.0));
         are_bytes = s.are_bytes;
         node_count = omega (arith, in_room.one, at-IdList nodes_layer a.0.0);
-        pattern_count = ap (λ k. next.patterns + k) (at-IdList patterns_layer a.0.0) ∙ in_room.pattern;
+        pattern_count = ap (λ k. next.patterns + k) (at-IdList pattern_count_layer a.0.0) ∙ in_room.pattern;
         stop = in_room.stop;
         inside = omega (arith, s.inside, in_room.stop);
       })
@@ -415,7 +415,7 @@ module _ (l : Lower) where
           parts = ap (λ (r : List ℕ). 8 ∷ r) s.parts ∙ ap (λ (r : List ℕ). r ++ a.0.2) (sym (at-Not tree_layer x));
           are_bytes = s.are_bytes;
           node_count = omega (arith, in_room.one, at-Not nodes_layer x, s.node_count);
-          pattern_count = omega (arith, in_room.pattern, at-Not patterns_layer x, s.pattern_count);
+          pattern_count = omega (arith, in_room.pattern, at-Not pattern_count_layer x, s.pattern_count);
           stop = s.stop ∙ in_room.stop;
           inside = omega (arith, s.inside, in_room.stop);
         })
@@ -426,8 +426,8 @@ module _ (l : Lower) where
     abbrev after_first : (Target → Target → Target) → Target × Room × List ℕ → Result (Target × Room × List ℕ) Misread
     after_first z first = part first.1 first.2 >>= after_both z first.0
 
-    two_took : (tag : ℕ) (z : Target → Target → Target) → ((x y : Target) → tree (z x y) ≡ tag ∷ (tree x ++ tree y)) → ((x y : Target) → right (z x y) ≡ (right x && right y))
-        → ((x y : Target) → nodes (z x y) ≡ 1 + (nodes x + nodes y)) → ((x y : Target) → patterns (z x y) ≡ patterns x + patterns y) → cost tag ≡ 0
+    two_took : (tag : ℕ) (z : Target → Target → Target) → ((x y : Target) → tree_bytes (z x y) ≡ tag ∷ (tree_bytes x ++ tree_bytes y)) → ((x y : Target) → right (z x y) ≡ (right x && right y))
+        → ((x y : Target) → nodes (z x y) ≡ 1 + (nodes x + nodes y)) → ((x y : Target) → pattern_count (z x y) ≡ pattern_count x + pattern_count y) → cost tag ≡ 0
         → (room next : Room) (b : List ℕ) (w : Target × Room × List ℕ) → IsBytes b → (part next b >>= after_first z) ≡ Ok w → NodeTook tag room next b w
     two_took tag z spelled rights one pats free room next b w h e in_room =
         let a = bind_ok (part next b) (after_first z) w e in
@@ -439,7 +439,7 @@ module _ (l : Lower) where
         let all : Target × Room × List ℕ = (z x y, c.0.1, c.0.2) in
         subst (λ (v : Target × Room × List ℕ). TreeTook room (tag ∷ b) v) (ok_is all w c.2) (record {
           rights = rights x y ∙ both (right x) (right y) s.rights u.rights;
-          parts = ap (λ (r : List ℕ). tag ∷ r) (join b (tree x) a.0.2 (tree y) c.0.2 s.parts u.parts) ∙ ap (λ (r : List ℕ). r ++ c.0.2) (sym (spelled x y));
+          parts = ap (λ (r : List ℕ). tag ∷ r) (join b (tree_bytes x) a.0.2 (tree_bytes y) c.0.2 s.parts u.parts) ∙ ap (λ (r : List ℕ). r ++ c.0.2) (sym (spelled x y));
           are_bytes = u.are_bytes;
           node_count = omega (arith, in_room.one, one x y, s.node_count, u.node_count);
           pattern_count = omega (arith, in_room.pattern, free, pats x y, s.pattern_count, u.pattern_count);
@@ -449,11 +449,11 @@ module _ (l : Lower) where
 
     and_took : (room next : Room) (b : List ℕ) (y : Target × Room × List ℕ) → IsBytes b → and_node part next b ≡ Ok y → NodeTook 9 room next b y
     unfolding and_node
-    and_took room next b y h e = two_took 9 t.And (at-And tree_layer) (at-And right_layer) (at-And nodes_layer) (at-And patterns_layer) refl room next b y h e
+    and_took room next b y h e = two_took 9 t.And (at-And tree_layer) (at-And right_layer) (at-And nodes_layer) (at-And pattern_count_layer) refl room next b y h e
 
     or_took : (room next : Room) (b : List ℕ) (y : Target × Room × List ℕ) → IsBytes b → or_node part next b ≡ Ok y → NodeTook 10 room next b y
     unfolding or_node
-    or_took room next b y h e = two_took 10 t.Or (at-Or tree_layer) (at-Or right_layer) (at-Or nodes_layer) (at-Or patterns_layer) refl room next b y h e
+    or_took room next b y h e = two_took 10 t.Or (at-Or tree_layer) (at-Or right_layer) (at-Or nodes_layer) (at-Or pattern_count_layer) refl room next b y h e
 
   -- one case of a choice by a number
   choose : {C : Type 0} (n k : ℕ) (r s : Result C Misread) (x : C) → cond (eqb n k) r s ≡ Ok x → ((n ≡ k) × (r ≡ Ok x)) ⊎ (s ≡ Ok x)
@@ -529,18 +529,18 @@ module _ (l : Lower) where
       let g = tag_took room b a.0 h a.1 in
       subst (λ (x : List ℕ). TreeTook room x y) (sym g.parts) (node_took d (tree_took d) a.0.0 room a.0.1 a.0.2 y g.are_bytes a.2 g.room_left)
 
-  whole_took : (b : List ℕ) (x : Target × List ℕ) → IsBytes b → tree_field b ≡ Ok x → Took tree TreeFits b x
+  whole_took : (b : List ℕ) (x : Target × List ℕ) → IsBytes b → tree_field b ≡ Ok x → Took tree_bytes TreeFits b x
   unfolding tree_field
   whole_took b x h e =
-      let a = bind_ok (tree_at 256 (whole_room b) b) (λ tree. Ok (tree.0, tree.2)) x e in
+      let a = bind_ok (tree_at 256 (whole_room b) b) (λ tree_bytes. Ok (tree_bytes.0, tree_bytes.2)) x e in
       let g = tree_took 256 (whole_room b) b a.0 h a.1 in
-      let len : length b ≡ length (tree a.0.0) + length a.0.2 = ap length g.parts ∙ length-append (tree a.0.0) a.0.2 in
+      let len : length b ≡ length (tree_bytes a.0.0) + length a.0.2 = ap length g.parts ∙ length-append (tree_bytes a.0.0) a.0.2 in
       let all : Target × List ℕ = (a.0.0, a.0.2) in
-      subst (λ (y : Target × List ℕ). Took tree TreeFits b y) (ok_is all x a.2) (
+      subst (λ (y : Target × List ℕ). Took tree_bytes TreeFits b y) (ok_is all x a.2) (
         record { few_nodes = omega (arith, g.node_count); few_patterns = omega (arith, g.pattern_count); long = omega (arith, g.inside, len); right_leaves = g.rights },
         g.parts,
         g.are_bytes,
       )
 
-  pub trees : IsReadBack tree TreeFits tree_field
+  pub trees : IsReadBack tree_bytes TreeFits tree_field
   trees = record { written = tree_written; took = whole_took }

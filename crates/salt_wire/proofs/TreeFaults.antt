@@ -14,8 +14,8 @@ use Rattle.salt_wire.specs.declared.fault.Misread.TheVariants.{BadField}
 use Rattle.salt_wire.specs.declared.tree.Room.{Room}
 use Rattle.salt_wire.specs.Spelling.{id}
 use Rattle.salt_wire.specs.Limits.{is_id}
-use Rattle.salt_wire.specs.Decoding.{bad, id_or, ends_before, is_text_tag, is_pattern_tag, room_after, with_room, tag_field, leaf_text, leaf_ids, leaf, text_node, list_node, not_node, and_node, or_node, node_after, tree_at, whole_room, tree_field}
-use Rattle.salt_wire.specs.FirstFault.{IsTold, After, LeafText, LeafIds, Subtrees, NoNode, after, is_node, subtrees, AreIds, IsAfter, Node, nodes_bytes, pattern_leaves, Unended, InLimits, NodeWrong, NodesWrong, TreeWrong}
+use Rattle.salt_wire.specs.Decoding.{misread, id_or, ends_before, is_text_tag, is_pattern_tag, room_after, with_room, tag_field, leaf_text, leaf_ids, leaf, text_node, list_node, not_node, and_node, or_node, node_after, tree_at, whole_room, tree_field}
+use Rattle.salt_wire.specs.FirstFault.{IsTold, After, LeafText, LeafIds, Subtrees, NoNode, after_bytes, is_node, subtrees, AreIds, IsAfter, Node, nodes_bytes, pattern_leaves, Unended, InLimits, NodeWrong, NodesWrong, TreeWrong}
 use Rattle.salt_wire.proofs.Codec.{Lower, bind_ok, ok_is}
 use Rattle.salt_wire.proofs.WriteLemmas.{both_true}
 use Rattle.salt_wire.proofs.TreeBack.{made, cost, TagTook, leaf_text_written, leaf_ids_written, tag_written, tag_took, leaf_text_took, leaf_ids_took, tree_took}
@@ -30,22 +30,22 @@ after_field LeafIds stop b = leaf_ids stop b >>= λ x. Ok x.1
 after_field (Subtrees n) stop b = Ok b
 after_field NoNode stop b = Err (BadField (suc (length b)))
 
-leaf_text_only : (stop : ℕ) (b : List ℕ) → Only (bad b) (leaf_text stop b)
+leaf_text_only : (stop : ℕ) (b : List ℕ) → Only (misread b) (leaf_text stop b)
 unfolding leaf_text
-leaf_text_only stop b = both (bad b) _ _ (text_only (bad b) b) (λ x. test (bad b) _ _ _ good fault)
+leaf_text_only stop b = both (misread b) _ _ (text_only (misread b) b) (λ x. test (misread b) _ _ _ good fault)
 
 several_only : (f : Misread) (n : ℕ) (b : List ℕ) → Only f (several (id_or f) n b)
 unfolding several
 several_only f zero b = good
 several_only f (suc n) b = both f _ _ (counted_only f w8 is_id b) (λ x. both f _ _ (several_only f n x.1) (λ y. good))
 
-leaf_ids_only : (stop : ℕ) (b : List ℕ) → Only (bad b) (leaf_ids stop b)
+leaf_ids_only : (stop : ℕ) (b : List ℕ) → Only (misread b) (leaf_ids stop b)
 unfolding leaf_ids
-leaf_ids_only stop b = both (bad b) _ _ (number_only w16 (bad b) b) (λ n. both (bad b) _ _ (several_only (bad b) n.0 n.1) (λ x. test (bad b) _ _ _ good fault))
+leaf_ids_only stop b = both (misread b) _ _ (number_only w16 (misread b) b) (λ n. both (misread b) _ _ (several_only (misread b) n.0 n.1) (λ x. test (misread b) _ _ _ good fault))
 
-after_only : (a : After) (stop : ℕ) (b : List ℕ) → is_node a ≡ true → Only (bad b) (after_field a stop b)
-after_only LeafText stop b h = both (bad b) _ _ (leaf_text_only stop b) (λ x. good)
-after_only LeafIds stop b h = both (bad b) _ _ (leaf_ids_only stop b) (λ x. good)
+after_only : (a : After) (stop : ℕ) (b : List ℕ) → is_node a ≡ true → Only (misread b) (after_field a stop b)
+after_only LeafText stop b h = both (misread b) _ _ (leaf_text_only stop b) (λ x. good)
+after_only LeafIds stop b h = both (misread b) _ _ (leaf_ids_only stop b) (λ x. good)
 after_only (Subtrees n) stop b h = good
 after_only NoNode stop b h = absurd cc
 
@@ -59,9 +59,9 @@ room_only : (f : Misread) (tag : ℕ × List ℕ) (o : Option Room) → Only f (
 room_only f tag None = fault
 room_only f tag (Some r) = good
 
-tag_only : (room : Room) (b : List ℕ) → Only (bad b) (tag_field room b)
+tag_only : (room : Room) (b : List ℕ) → Only (misread b) (tag_field room b)
 unfolding tag_field
-tag_only room b = both (bad b) _ _ (number_only w8 (bad b) b) (λ x. both (bad b) (when (ends_before room.stop x) (bad b) x) _ (test (bad b) (ends_before room.stop x) (Ok x) (Err (bad b)) good fault) (λ y. room_only (bad b) y (room_after room y.0)))
+tag_only room b = both (misread b) _ _ (number_only w8 (misread b) b) (λ x. both (misread b) (when (ends_before room.stop x) (misread b) x) _ (test (misread b) (ends_before room.stop x) (Ok x) (Err (misread b)) good fault) (λ y. room_only (misread b) y (room_after room y.0)))
 
 record AfterTook (a : After) (stop : ℕ) (b rest : List ℕ) : Type 0 where
   field : List ℕ
@@ -98,9 +98,9 @@ module _ (l : Lower) where
 
 nodes_at : ℕ → ℕ → ℕ → ℕ → List ℕ → Result (Room × List ℕ) Misread
 nodes_at zero zero p s b = Ok (made zero p s, b)
-nodes_at zero (suc k) p s b = Err (bad b)
+nodes_at zero (suc k) p s b = Err (misread b)
 nodes_at (suc n) zero p s b = Ok (made (suc n) p s, b)
-nodes_at (suc n) (suc k) p s b = tag_field (made (suc n) p s) b >>= λ tag. after_field (after tag.0) s tag.2 >>= λ rest. nodes_at n (k + subtrees (after tag.0)) tag.1.patterns s rest
+nodes_at (suc n) (suc k) p s b = tag_field (made (suc n) p s) b >>= λ tag. after_field (after_bytes tag.0) s tag.2 >>= λ rest. nodes_at n (k + subtrees (after_bytes tag.0)) tag.1.patterns s rest
 
 nodes_none : (n p s : ℕ) (b : List ℕ) → nodes_at n zero p s b ≡ Ok (made n p s, b)
 unfolding nodes_at
@@ -147,7 +147,7 @@ module _ (l : Lower) where
       by (Err e) q = refl
       by (Ok y) q = let g = tree_took l d room b y h q in law y.1.nodes y.1.patterns y.1.stop k y.2 (omega (arith, g.node_count, le)) g.are_bytes ∙ last y.0 (tree_at d y.1 y.2)
 
-    node_same : (tag : ℕ) (room : Room) (k : ℕ) (b : List ℕ) → room.nodes ≤ d → IsBytes b → Same room k b (after tag) (node_after (tree_at d) tag room b)
+    node_same : (tag : ℕ) (room : Room) (k : ℕ) (b : List ℕ) → room.nodes ≤ d → IsBytes b → Same room k b (after_bytes tag) (node_after (tree_at d) tag room b)
     unfolding node_after list_node and_node or_node text_node
     node_same tag room k b le h =
         pick room k b (eqb tag 3) LeafIds _ _ _ (of_leaf room k t.IdList (leaf_ids room.stop b))
@@ -156,9 +156,9 @@ module _ (l : Lower) where
         (pick room k b (eqb tag 10) (Subtrees 2) _ _ _ (of_two t.Or room k b le h)
         (pick room k b (is_text_tag tag) LeafText NoNode _ _ (of_leaf room k (leaf tag) (leaf_text room.stop b)) refl))))
 
-  no_tag : (p s : ℕ) (b : List ℕ) → IsBytes b → tag_field (made 0 p s) b ≡ Err (bad b)
+  no_tag : (p s : ℕ) (b : List ℕ) → IsBytes b → tag_field (made 0 p s) b ≡ Err (misread b)
   no_tag p s b h = by (tag_field (made 0 p s) b) refl where
-    by : (r : Result (ℕ × Room × List ℕ) Misread) → tag_field (made 0 p s) b ≡ r → r ≡ Err (bad b)
+    by : (r : Result (ℕ × Room × List ℕ) Misread) → tag_field (made 0 p s) b ≡ r → r ≡ Err (misread b)
     by (Ok y) q = let g = (tag_took l (made 0 p s) b y h q).room_left in absurd (omega (arith, g.one))
     by (Err e) q = ap (λ f. Err f) ((tag_only (made 0 p s) b).is e q)
 
@@ -169,13 +169,13 @@ module _ (l : Lower) where
   bridge (suc d) zero p s k b le h = sym (ap (λ r. (r >>= λ tag. node_after (tree_at d) tag.0 tag.1 tag.2) >>= then_nodes k) (no_tag p s b h))
   bridge (suc d) (suc n) p s k b le h = by (bridge d) (tag_field (made (suc n) p s) b) refl where
     by : Bridge d → (r : Result (ℕ × Room × List ℕ) Misread) → tag_field (made (suc n) p s) b ≡ r
-        → (r >>= λ tag. after_field (after tag.0) s tag.2 >>= λ rest. nodes_at n (k + subtrees (after tag.0)) tag.1.patterns s rest) ≡ ((r >>= λ tag. node_after (tree_at d) tag.0 tag.1 tag.2) >>= then_nodes k)
+        → (r >>= λ tag. after_field (after_bytes tag.0) s tag.2 >>= λ rest. nodes_at n (k + subtrees (after_bytes tag.0)) tag.1.patterns s rest) ≡ ((r >>= λ tag. node_after (tree_at d) tag.0 tag.1 tag.2) >>= then_nodes k)
     by law (Err e) q = refl
     by law (Ok y) q =
         let g = tag_took l (made (suc n) p s) b y h q in
         let one : n ≡ y.1.nodes = omega (arith, g.room_left.one) in
         let same : s ≡ y.1.stop = sym g.room_left.stop in
-        ap₂ (λ (m u : ℕ). after_field (after y.0) u y.2 >>= λ rest. nodes_at m (k + subtrees (after y.0)) y.1.patterns u rest) one same
+        ap₂ (λ (m u : ℕ). after_field (after_bytes y.0) u y.2 >>= λ rest. nodes_at m (k + subtrees (after_bytes y.0)) y.1.patterns u rest) one same
         ∙ node_same d law y.0 y.1 k y.2 (omega (arith, one, le)) g.are_bytes
 
   tree_as_nodes : (b : List ℕ) (e : Misread) → IsBytes b → tree_field b ≡ Err e → nodes_at 256 1 16 (length b - 65536) b ≡ Err e
@@ -226,9 +226,9 @@ module _ (n p q m j : ℕ) (x : Node) (patterns : q + cost x.0 ≡ p) (long : j 
       inr (w.0, w.1, w.2, (w.3.0, grow (done ++ (w.0, []) ∷ []) w.3.1), (w.4.0, λ front rest h parts. w.4.1 front rest (h.0, shrink (done ++ (w.0, front) ∷ []) h.1) parts))
 
   -- a right node, and then nodes of which one is wrong
-  one_more : (k : ℕ) (b rest at : List ℕ) → IsAfter (after x.0) x.1 → b ≡ (x.0 ∷ x.1) ++ rest → NodesWrong n q j (k + subtrees (after x.0)) rest at → NodesWrong (suc n) p m (suc k) b at
+  one_more : (k : ℕ) (b rest at : List ℕ) → IsAfter (after_bytes x.0) x.1 → b ≡ (x.0 ∷ x.1) ++ rest → NodesWrong n q j (k + subtrees (after_bytes x.0)) rest at → NodesWrong (suc n) p m (suc k) b at
   one_more k b rest at right parts w =
-      let same : k + subtrees (after x.0) ≡ suc k - 1 + subtrees (after x.0) = omega arith in (
+      let same : k + subtrees (after_bytes x.0) ≡ suc k - 1 + subtrees (after_bytes x.0) = omega arith in (
         x ∷ w.0,
         w.1,
         parts ∙ ap (λ (s : List ℕ). (x.0 ∷ x.1) ++ s) w.2 ∙ sym (append_assoc (x.0 ∷ x.1) (nodes_bytes w.0) w.1),
@@ -251,15 +251,15 @@ module _ (l : Lower) where
   tag_again n p s tag b rest h e few le = ap (tag_field (made (suc n) p s)) e ∙ tag_written l (made (suc n) p s) tag rest ((subst IsBytes e h) 0) (omega arith) few le
 
   abbrev then_more : ℕ → ℕ → ℕ → ℕ × Room × List ℕ → Result (Room × List ℕ) Misread
-  then_more n k s tag = after_field (after tag.0) s tag.2 >>= λ rest. nodes_at n (k + subtrees (after tag.0)) tag.1.patterns s rest
+  then_more n k s tag = after_field (after_bytes tag.0) s tag.2 >>= λ rest. nodes_at n (k + subtrees (after_bytes tag.0)) tag.1.patterns s rest
 
-  node_again : (n k p s : ℕ) (x : Node) (b rest : List ℕ) → IsBytes b → b ≡ (x.0 ∷ x.1) ++ rest → cost x.0 ≤ p → s ≤ length rest → IsAfter (after x.0) x.1
-      → nodes_at (suc n) (suc k) p s b ≡ nodes_at n (k + subtrees (after x.0)) (p - cost x.0) s rest
+  node_again : (n k p s : ℕ) (x : Node) (b rest : List ℕ) → IsBytes b → b ≡ (x.0 ∷ x.1) ++ rest → cost x.0 ≤ p → s ≤ length rest → IsAfter (after_bytes x.0) x.1
+      → nodes_at (suc n) (suc k) p s b ≡ nodes_at n (k + subtrees (after_bytes x.0)) (p - cost x.0) s rest
   unfolding nodes_at
   node_again n k p s x b rest h e few le right =
       let longer : s ≤ length (x.1 ++ rest) = omega (arith, le, length-append x.1 rest) in
       ap (λ r. r >>= then_more n k s) (tag_again n p s x.0 b (x.1 ++ rest) h e few longer)
-      ∙ ap (λ r. r >>= λ rest. nodes_at n (k + subtrees (after x.0)) (p - cost x.0) s rest) (after_again l (after x.0) s x.1 rest right le)
+      ∙ ap (λ r. r >>= λ rest. nodes_at n (k + subtrees (after_bytes x.0)) (p - cost x.0) s rest) (after_again l (after_bytes x.0) s x.1 rest right le)
 
   -- the next node is wrong
   node_first : (n p m k s : ℕ) (b at : List ℕ) → IsBytes b → s ≡ length b - m → NodeWrong n p m [] b at → nodes_at n (suc k) p s b ≡ Err (BadField (length at))
@@ -267,16 +267,16 @@ module _ (l : Lower) where
   node_first zero p m k s b at h e (inl w) = ap (λ (x : List ℕ). Err (BadField (length x))) (sym w.0)
   node_first zero p m k s b at h e (inr w) = absurd (omega (arith, w.3.1.few_nodes))
   node_first (suc n) p m k s b at h e (inl w) = by (tag_field (made (suc n) p s) b) refl where
-    known : (y : ℕ × Room × List ℕ) → TagTook l (made (suc n) p s) b y → (c : Bool) → is_node (after y.0) ≡ c → then_more n k s y ≡ Err (BadField (length at))
+    known : (y : ℕ × Room × List ℕ) → TagTook l (made (suc n) p s) b y → (c : Bool) → is_node (after_bytes y.0) ≡ c → then_more n k s y ≡ Err (BadField (length at))
     known y g true c =
         let few : cost y.0 ≤ p = omega (arith, g.room_left.pattern) in
         let some : 1 ≤ m = omega (arith, g.inside, e, ap length g.parts) in
         absurd (w.1 (y.0 ∷ []) y.2 (y.0, (c, one_node (suc n) p m (y.0, []) (omega arith) few some), refl) g.parts)
-    known y g false c = ap (λ r. r >>= λ rest. nodes_at n (k + subtrees (after y.0)) y.1.patterns s rest) (after_none (after y.0) s y.2 c) ∙ ap (λ (x : List ℕ). Err (BadField (length x))) (sym (w.0 ∙ g.parts))
+    known y g false c = ap (λ r. r >>= λ rest. nodes_at n (k + subtrees (after_bytes y.0)) y.1.patterns s rest) (after_none (after_bytes y.0) s y.2 c) ∙ ap (λ (x : List ℕ). Err (BadField (length x))) (sym (w.0 ∙ g.parts))
 
     by : (r : Result (ℕ × Room × List ℕ) Misread) → tag_field (made (suc n) p s) b ≡ r → (tag_field (made (suc n) p s) b >>= then_more n k s) ≡ Err (BadField (length at))
     by (Err f) q = ap (λ r. r >>= then_more n k s) q ∙ ap (λ f. Err f) ((tag_only (made (suc n) p s) b).is f q ∙ ap (λ (x : List ℕ). BadField (length x)) (sym w.0))
-    by (Ok y) q = ap (λ r. r >>= then_more n k s) q ∙ known y (tag_took l (made (suc n) p s) b y h q) (is_node (after y.0)) refl
+    by (Ok y) q = ap (λ r. r >>= then_more n k s) q ∙ known y (tag_took l (made (suc n) p s) b y h q) (is_node (after_bytes y.0)) refl
   node_first (suc n) p m k s b at h e (inr w) =
       let tag = w.0 in
       let rest = w.1 in
@@ -285,15 +285,15 @@ module _ (l : Lower) where
       let len : length b ≡ suc (length rest) = ap length w.2 in
       let le : s ≤ length rest = omega (arith, e, some, len) in
       ap (λ r. r >>= then_more n k s) (tag_again n p s tag b rest h w.2 few le)
-      ∙ by few le len (after_field (after tag) s rest) refl
+      ∙ by few le len (after_field (after_bytes tag) s rest) refl
     where
-      by : cost w.0 ≤ p → s ≤ length w.1 → length b ≡ suc (length w.1) → (r : Result (List ℕ) Misread) → after_field (after w.0) s w.1 ≡ r
-          → (after_field (after w.0) s w.1 >>= λ rest. nodes_at n (k + subtrees (after w.0)) (p - cost w.0) s rest) ≡ Err (BadField (length at))
+      by : cost w.0 ≤ p → s ≤ length w.1 → length b ≡ suc (length w.1) → (r : Result (List ℕ) Misread) → after_field (after_bytes w.0) s w.1 ≡ r
+          → (after_field (after_bytes w.0) s w.1 >>= λ rest. nodes_at n (k + subtrees (after_bytes w.0)) (p - cost w.0) s rest) ≡ Err (BadField (length at))
       by few le len (Err f) q =
-          ap (λ r. r >>= λ rest. nodes_at n (k + subtrees (after w.0)) (p - cost w.0) s rest) q
-          ∙ ap (λ f. Err f) ((after_only (after w.0) s w.1 w.3.0).is f q ∙ ap (λ (x : List ℕ). BadField (length x)) (sym w.4.0))
+          ap (λ r. r >>= λ rest. nodes_at n (k + subtrees (after_bytes w.0)) (p - cost w.0) s rest) q
+          ∙ ap (λ f. Err f) ((after_only (after_bytes w.0) s w.1 w.3.0).is f q ∙ ap (λ (x : List ℕ). BadField (length x)) (sym w.4.0))
       by few le len (Ok r) q =
-          let g = after_took l (after w.0) s w.1 r (IsBytes-rest w.0 w.1 (subst IsBytes w.2 h)) le q in
+          let g = after_took l (after_bytes w.0) s w.1 r (IsBytes-rest w.0 w.1 (subst IsBytes w.2 h)) le q in
           let long : suc (length g.field) ≤ m = omega (arith, g.inside, e, len, ap length g.parts, length-append g.field r) in
           absurd (w.4.1 g.field r (g.right, one_node (suc n) p m (w.0, g.field) (omega arith) few long) g.parts)
 
@@ -312,9 +312,9 @@ module _ (l : Lower) where
       let le : s ≤ length more = omega (arith, e, len, long) in
       let q : p - cost x.0 + cost x.0 ≡ p = omega (arith, few) in
       let j : m - suc (length x.1) + suc (length x.1) ≡ m = omega (arith, long) in
-      let same : suc k - 1 + subtrees (after x.0) ≡ k + subtrees (after x.0) = omega arith in
+      let same : suc k - 1 + subtrees (after_bytes x.0) ≡ k + subtrees (after_bytes x.0) = omega arith in
       node_again n k p s x b more h split few le un.1
-      ∙ nodes_first done n (p - cost x.0) (m - suc (length x.1)) (k + subtrees (after x.0)) s more rest at (IsBytes-after (x.0 ∷ x.1) b more split h) (omega (arith, e, len, long)) refl
+      ∙ nodes_first done n (p - cost x.0) (m - suc (length x.1)) (k + subtrees (after_bytes x.0)) s more rest at (IsBytes-after (x.0 ∷ x.1) b more split h) (omega (arith, e, len, long)) refl
       (subst (λ i. Unended i done) same un.2) (shrink n p (p - cost x.0) m (m - suc (length x.1)) x q j done lim) (wrong_shrink n p (p - cost x.0) m (m - suc (length x.1)) x q j done rest at w)
 
   -- where the nodes of so many trees go wrong
@@ -330,11 +330,11 @@ module _ (l : Lower) where
   nodes_met zero zero p m s b f h e q = never (made zero p s, b) f q
   nodes_met (suc n) zero p m s b f h e q = never (made (suc n) p s, b) f q
   nodes_met zero (suc k) p m s b f h e q =
-      at_once zero p m k b b f (inl (refl, λ front rest may parts. absurd (omega (arith, may.1.1.few_nodes)))) (sym (err_is (bad b) f q))
+      at_once zero p m k b b f (inl (refl, λ front rest may parts. absurd (omega (arith, may.1.1.few_nodes)))) (sym (err_is (misread b) f q))
   nodes_met (suc n) (suc k) p m s b f h e q =
       elim (bind_err (tag_field (made (suc n) p s) b) (then_more n k s) f q) [
         | inl r ↦ at_once (suc n) p m k b b f (inl (refl, λ front rest may parts. no_tag may.0 rest may.1.1 (parts ∙ ap (λ (x : List ℕ). x ++ rest) may.2) r)) ((tag_only (made (suc n) p s) b).is f r)
-        | inr r ↦ tagged (λ u v w rest g d z. nodes_met n u v w s rest f g d z) r.0 (tag_took l (made (suc n) p s) b r.0 h r.1) (is_node (after r.0.0)) refl r.2
+        | inr r ↦ tagged (λ u v w rest g d z. nodes_met n u v w s rest f g d z) r.0 (tag_took l (made (suc n) p s) b r.0 h r.1) (is_node (after_bytes r.0.0)) refl r.2
       ]
     where
       no_tag : (tag : ℕ) (rest : List ℕ) → InLimits (suc n) p m ((tag, []) ∷ []) → b ≡ tag ∷ rest → tag_field (made (suc n) p s) b ≡ Err f → ⊥
@@ -343,20 +343,20 @@ module _ (l : Lower) where
           never (tag, made (suc n - 1) (p - cost tag) s, rest) f (sym (tag_again n p s tag b rest h parts (omega (arith, lim.few_patterns, leaves-cons (tag, []) [])) le) ∙ r)
 
       tagged : ((u v w : ℕ) (rest : List ℕ) → IsBytes rest → s ≡ length rest - w → nodes_at n u v s rest ≡ Err f → Met n v w u rest f)
-          → (y : ℕ × Room × List ℕ) → TagTook l (made (suc n) p s) b y → (c : Bool) → is_node (after y.0) ≡ c → then_more n k s y ≡ Err f → Met (suc n) p m (suc k) b f
+          → (y : ℕ × Room × List ℕ) → TagTook l (made (suc n) p s) b y → (c : Bool) → is_node (after_bytes y.0) ≡ c → then_more n k s y ≡ Err f → Met (suc n) p m (suc k) b f
       tagged others y g false c r =
-          let same : f ≡ BadField (suc (length y.2)) = sym (err_is (BadField (suc (length y.2))) f (sym (ap (λ r. r >>= λ rest. nodes_at n (k + subtrees (after y.0)) y.1.patterns s rest) (after_none (after y.0) s y.2 c)) ∙ r)) in
+          let same : f ≡ BadField (suc (length y.2)) = sym (err_is (BadField (suc (length y.2))) f (sym (ap (λ r. r >>= λ rest. nodes_at n (k + subtrees (after_bytes y.0)) y.1.patterns s rest) (after_none (after_bytes y.0) s y.2 c)) ∙ r)) in
           at_once (suc n) p m k b b f (inl (
             refl,
             λ front rest may parts.
                 let one : may.0 ≡ y.0 = heads may.0 y.0 rest y.2 (sym (parts ∙ ap (λ (x : List ℕ). x ++ rest) may.2) ∙ g.parts) in
-                let clash : true ≡ false = sym may.1.0 ∙ ap (λ tag. is_node (after tag)) one ∙ c in absurd cc,
+                let clash : true ≡ false = sym may.1.0 ∙ ap (λ tag. is_node (after_bytes tag)) one ∙ c in absurd cc,
           )) (same ∙ ap (λ (x : List ℕ). BadField (length x)) (sym g.parts))
       tagged others y g true c r =
           let few : cost y.0 ≤ p = omega (arith, g.room_left.pattern) in
           let len : length b ≡ suc (length y.2) = ap length g.parts in
           let some : 1 ≤ m = omega (arith, g.inside, e, len) in
-          elim (bind_err (after_field (after y.0) s y.2) (λ rest. nodes_at n (k + subtrees (after y.0)) y.1.patterns s rest) f r) [
+          elim (bind_err (after_field (after_bytes y.0) s y.2) (λ rest. nodes_at n (k + subtrees (after_bytes y.0)) y.1.patterns s rest) f r) [
             | inl z ↦
                 at_once (suc n) p m k b y.2 f (inr (
                   y.0,
@@ -368,14 +368,14 @@ module _ (l : Lower) where
                     λ front rest may parts.
                         let longer : suc (length front) ≤ m = omega (arith, may.1.long, length-append front []) in
                         let le : s ≤ length rest = omega (arith, e, len, longer, ap length parts, length-append front rest) in
-                        never rest f (sym (ap (after_field (after y.0) s) parts ∙ after_again l (after y.0) s front rest may.0 le) ∙ z),
+                        never rest f (sym (ap (after_field (after_bytes y.0) s) parts ∙ after_again l (after_bytes y.0) s front rest may.0 le) ∙ z),
                   ),
-                )) ((after_only (after y.0) s y.2 c).is f z)
+                )) ((after_only (after_bytes y.0) s y.2 c).is f z)
             | inr z ↦
-                let t = after_took l (after y.0) s y.2 z.0 g.are_bytes g.inside z.1 in
+                let t = after_took l (after_bytes y.0) s y.2 z.0 g.are_bytes g.inside z.1 in
                 let sum : length y.2 ≡ length t.field + length z.0 = ap length t.parts ∙ length-append t.field z.0 in
                 let long : suc (length t.field) ≤ m = omega (arith, t.inside, e, len, sum) in
-                let w = others (k + subtrees (after y.0)) y.1.patterns (m - suc (length t.field)) z.0 t.are_bytes (omega (arith, e, len, sum, long)) z.2 in (
+                let w = others (k + subtrees (after_bytes y.0)) y.1.patterns (m - suc (length t.field)) z.0 t.are_bytes (omega (arith, e, len, sum, long)) z.2 in (
                   w.0,
                   one_more n p y.1.patterns m (m - suc (length t.field)) (y.0, t.field) g.room_left.pattern (omega (arith, long)) k b z.0 w.0 t.right
                       (g.parts ∙ ap (λ (x : List ℕ). y.0 ∷ x) t.parts) w.1,

@@ -6,7 +6,7 @@ use Rattle.target_tree.specs.declared.target.Target.{Target, fold-Target, fold-r
 use Rattle.target_tree.specs.declared.target.Target.TheVariants as t
 use Rattle.target_tree.specs.declared.target.Target.TheVariants.{rolls-IdGlob, rolls-IdPcre, rolls-IdList, rolls-GrainGlob, rolls-GrainPcre, rolls-PillarGlob, rolls-PillarPcre, rolls-Not, rolls-And, rolls-Or}
 use Rattle.target_tree.specs.declared.target.Target.TheOpen.{Target-F}
-use Rattle.salt_wire.specs.Spelling.{id, tree, tree_layer}
+use Rattle.salt_wire.specs.Spelling.{id, tree_bytes, tree_layer}
 use Rattle.salt_wire.specs.Limits.{right, right_layer}
 use Rattle.salt_wire.proofs.WriteLemmas.{both_true}
 
@@ -46,17 +46,17 @@ module _ {A : Type 0} (layer : Target-F A → A) where
 
 -- ---- trees as bytes, and right trees
 
-pub tree-IdList : (z : Target) (x : List (List ℕ)) → z ≡ t.IdList x → tree z ≡ 3 ∷ (to_be_bytes w16 (length x) ++ joined (map id x))
-tree-IdList z x e = ap tree e ∙ at-IdList tree_layer x
+pub tree-IdList : (z : Target) (x : List (List ℕ)) → z ≡ t.IdList x → tree_bytes z ≡ 3 ∷ (to_be_bytes w16 (length x) ++ joined (map id x))
+tree-IdList z x e = ap tree_bytes e ∙ at-IdList tree_layer x
 
-pub tree-Not : (z x : Target) → z ≡ t.Not x → tree z ≡ 8 ∷ tree x
-tree-Not z x e = ap tree e ∙ at-Not tree_layer x
+pub tree-Not : (z x : Target) → z ≡ t.Not x → tree_bytes z ≡ 8 ∷ tree_bytes x
+tree-Not z x e = ap tree_bytes e ∙ at-Not tree_layer x
 
-pub tree-And : (z x y : Target) → z ≡ t.And x y → tree z ≡ 9 ∷ (tree x ++ tree y)
-tree-And z x y e = ap tree e ∙ at-And tree_layer x y
+pub tree-And : (z x y : Target) → z ≡ t.And x y → tree_bytes z ≡ 9 ∷ (tree_bytes x ++ tree_bytes y)
+tree-And z x y e = ap tree_bytes e ∙ at-And tree_layer x y
 
-pub tree-Or : (z x y : Target) → z ≡ t.Or x y → tree z ≡ 10 ∷ (tree x ++ tree y)
-tree-Or z x y e = ap tree e ∙ at-Or tree_layer x y
+pub tree-Or : (z x y : Target) → z ≡ t.Or x y → tree_bytes z ≡ 10 ∷ (tree_bytes x ++ tree_bytes y)
+tree-Or z x y e = ap tree_bytes e ∙ at-Or tree_layer x y
 
 pub right-Not : (z x : Target) → z ≡ t.Not x → right z ≡ true → right x ≡ true
 right-Not z x e h = sym (ap right e ∙ at-Not right_layer x) ∙ h

@@ -10,7 +10,7 @@ use Rattle.salt_value.specs.Word.{is_word_byte}
 use Rattle.salt_value.specs.declared.fault.ValueFault.{ValueFault}
 use Rattle.salt_value.specs.declared.value.Value.{Value, out-Value}
 use Rattle.salt_value.specs.declared.value.Value.TheOpen.{Value-F}
-use Rattle.target_tree.specs.Kinds.{code_of}
+use Rattle.target_tree.specs.Kinds.{kind_code}
 use Rattle.target_tree.specs.declared.kind.Kind.{Kind}
 use Rattle.target_tree.specs.declared.kind.Kind.TheVariants as k
 use Rattle.target_tree.specs.declared.target.Target.{Target}
@@ -28,33 +28,33 @@ use Rattle.salt_wire.specs.declared.message.Message.TheVariants as m
 use Rattle.salt_wire.specs.Codes as code
 use Rattle.salt_wire.specs.Codes.{message_code, entry_code, node_code}
 use Rattle.salt_wire.specs.Spelling.{version as version_code}
-use Rattle.salt_wire.specs.Limits.{most_target_bytes, most_leaf_bytes, most_nodes, most_patterns, most_tree_bytes, most_answer_bytes, is_id, is_status}
+use Rattle.salt_wire.specs.Limits.{most_target_bytes, most_leaf_bytes, most_tree_nodes, most_patterns, most_tree_bytes, most_answer_bytes, is_id, is_status}
 
 -- ---- places are counted from the end here: a place is the number of bytes from there on
 
 -- ---- fields. One that isn't whole or breaks its rule is told at its first byte
 
 -- the field that begins these bytes is wrong
-abbrev pub bad : List ℕ → Misread
-bad bytes = BadField (length bytes)
+abbrev pub misread : List ℕ → Misread
+misread bytes = BadField (length bytes)
 
 -- a byte
 abbrev pub byte_field : Reader Misread ℕ
-byte_field bytes = number_or w8 (bad bytes) bytes
+byte_field bytes = number_or w8 (misread bytes) bytes
 
 -- a number of 32 bits
 abbrev pub number_field : Reader Misread ℕ
-number_field bytes = number_or w32 (bad bytes) bytes
+number_field bytes = number_or w32 (misread bytes) bytes
 
 -- a text
 abbrev pub text_field : Reader Misread (List ℕ)
-text_field bytes = text_or (bad bytes) (bad bytes) bytes
+text_field bytes = text_or (misread bytes) (misread bytes) bytes
 
 -- a text of at most so many bytes
 abbrev pub short_text : ℕ → Reader Misread (List ℕ)
 short_text most bytes = do
   text ← text_field bytes
-  when (nat_le (length text.0) most) (bad bytes) text
+  when (nat_le (length text.0) most) (misread bytes) text
 
 -- bytes that pass a test, after a number of this width that tells how many they are
 unfoldable pub counted_or : Misread → Width → (List ℕ → Bool) → Reader Misread (List ℕ)
@@ -72,17 +72,17 @@ id_or f bytes = counted_or f w8 is_id bytes
 
 -- an id after the byte of its length
 abbrev pub id_field : Reader Misread (List ℕ)
-id_field bytes = id_or (bad bytes) bytes
+id_field bytes = id_or (misread bytes) bytes
 
 -- a word after the two bytes of its length
 abbrev pub word_field : Reader Misread (List ℕ)
-word_field bytes = counted_or (bad bytes) w16 is_word bytes
+word_field bytes = counted_or (misread bytes) w16 is_word bytes
 
 -- a job id
 unfoldable pub jid_field : Reader Misread ℕ
 jid_field bytes = do
-  n ← number_or w64 (bad bytes) bytes
-  when (nat_le n.0 greatest_jid) (bad bytes) n
+  n ← number_or w64 (misread bytes) bytes
+  when (nat_le n.0 greatest_jid) (misread bytes) n
 
 -- each kind of target
 abbrev pub kinds : List Kind
@@ -90,18 +90,18 @@ kinds = k.Glob ∷ k.Pcre ∷ k.List ∷ k.Grain ∷ k.GrainPcre ∷ k.Pillar �
 
 -- the kind of target that has this code
 unfoldable pub kind_of : ℕ → Option Kind
-kind_of code = find (λ kind. code_of kind == code) kinds
+kind_of code = find (λ kind. kind_code kind == code) kinds
 
 -- the kind of a target
 unfoldable pub kind_field : Reader Misread Kind
 kind_field bytes = do
   code ← byte_field bytes
-  found (bad bytes) (kind_of code.0) code.1
+  found (misread bytes) (kind_of code.0) code.1
 
 -- the value that was read, and the bytes after it; each fault of a value is one of its field
 abbrev pub value_or : List ℕ → Result (Value × ℕ) ValueFault → Result (Value × List ℕ) Misread
 value_or bytes (Ok x) = Ok (x.0, drop x.1 bytes)
-value_or bytes (Err e) = Err (bad bytes)
+value_or bytes (Err e) = Err (misread bytes)
 
 -- a value
 unfoldable pub value_field : Reader Misread Value
@@ -113,14 +113,14 @@ items_layer (Value-F.List items) = Some items
 items_layer other = None
 
 -- the items of a value that is a list
-abbrev pub items_of : Value → Option (List Value)
-items_of value = items_layer (out-Value value)
+abbrev pub value_items : Value → Option (List Value)
+value_items value = items_layer (out-Value value)
 
 -- a value that is a list
 unfoldable pub items_field : Reader Misread (List Value)
 items_field bytes = do
   value ← value_field bytes
-  found (bad bytes) (items_of value.0) value.1
+  found (misread bytes) (value_items value.0) value.1
 
 -- by cases on the value: a map alone has pairs
 abbrev pub pairs_layer : Value-F Value → Option (List (List ℕ × Value))
@@ -128,14 +128,14 @@ pairs_layer (Value-F.Map pairs) = Some pairs
 pairs_layer other = None
 
 -- the pairs of a value that is a map
-abbrev pub pairs_of : Value → Option (List (List ℕ × Value))
-pairs_of value = pairs_layer (out-Value value)
+abbrev pub value_pairs : Value → Option (List (List ℕ × Value))
+value_pairs value = pairs_layer (out-Value value)
 
 -- a value that is a map
 unfoldable pub fields_field : Reader Misread (List (List ℕ × Value))
 fields_field bytes = do
   value ← value_field bytes
-  found (bad bytes) (pairs_of value.0) value.1
+  found (misread bytes) (value_pairs value.0) value.1
 
 -- ---- entries and messages
 
@@ -207,21 +207,21 @@ with_room f tag (Some room) = Ok (tag.0, room, tag.1)
 unfoldable pub tag_field : Room → List ℕ → Result (ℕ × Room × List ℕ) Misread
 tag_field room bytes = do
   tag ← byte_field bytes
-  ended ← when (ends_before room.stop tag) (bad bytes) tag
-  with_room (bad bytes) ended (room_after room ended.0)
+  ended ← when (ends_before room.stop tag) (misread bytes) tag
+  with_room (misread bytes) ended (room_after room ended.0)
 
 -- the text of a leaf
 unfoldable pub leaf_text : ℕ → Reader Misread (List ℕ)
 leaf_text stop bytes = do
   text ← text_field bytes
-  when (nat_le 1 (length text.0) && (nat_le (length text.0) most_leaf_bytes && ends_before stop text)) (bad bytes) text
+  when (nat_le 1 (length text.0) && (nat_le (length text.0) most_leaf_bytes && ends_before stop text)) (misread bytes) text
 
 -- the ids of a leaf, at least one, after the two bytes of their number; they are one field
 unfoldable pub leaf_ids : ℕ → Reader Misread (List (List ℕ))
 leaf_ids stop bytes = do
-  count ← number_or w16 (bad bytes) bytes
-  ids ← several (id_or (bad bytes)) count.0 count.1
-  when (nat_le 1 count.0 && ends_before stop ids) (bad bytes) ids
+  count ← number_or w16 (misread bytes) bytes
+  ids ← several (id_or (misread bytes)) count.0 count.1
+  when (nat_le 1 count.0 && ends_before stop ids) (misread bytes) ids
 
 -- a tree at the front of some bytes, what may still come in the tree around it, and the bytes after it
 abbrev pub TreeReader : Type 0
@@ -280,19 +280,19 @@ node_after part tag room bytes =
 
 -- a tree of at most so many levels, which may have no more than this
 unfoldable pub tree_at : ℕ → TreeReader
-tree_at zero room bytes = Err (bad bytes)
+tree_at zero room bytes = Err (misread bytes)
 tree_at (suc levels) room bytes = do
   tag ← tag_field room bytes
   node_after (tree_at levels) tag.0 tag.1 tag.2
 
 -- what a whole tree may have
 abbrev pub whole_room : List ℕ → Room
-whole_room bytes = record { nodes = most_nodes; patterns = most_patterns; stop = length bytes - most_tree_bytes }
+whole_room bytes = record { nodes = most_tree_nodes; patterns = most_patterns; stop = length bytes - most_tree_bytes }
 
 -- a whole tree; its levels can't be more than its nodes
 unfoldable pub tree_field : Reader Misread Target
 tree_field bytes = do
-  tree ← tree_at most_nodes (whole_room bytes) bytes
+  tree ← tree_at most_tree_nodes (whole_room bytes) bytes
   Ok (tree.0, tree.2)
 
 -- ---- jobs and messages
@@ -369,7 +369,7 @@ ask_mine_fields bytes = do
 unfoldable pub status_field : Reader Misread ℕ
 status_field bytes = do
   status ← byte_field bytes
-  when (is_status status.0) (bad bytes) status
+  when (is_status status.0) (misread bytes) status
 
 -- the status and the report
 unfoldable pub answer_fields : Reader Misread Message
@@ -386,8 +386,8 @@ client_fields kind bytes =
     else if kind == message_code code.Answer then answer_fields bytes else Err BadKind
 
 -- the fields of a message of this kind
-unfoldable pub fields_of : ℕ → Reader Misread Message
-fields_of kind bytes =
+unfoldable pub message_fields : ℕ → Reader Misread Message
+message_fields kind bytes =
     if kind == message_code code.Pub then pub_fields bytes else if kind == message_code code.Have then have_fields bytes else if kind == message_code code.Up then up_fields bytes
     else if kind == message_code code.UpHave then up_have_fields bytes else if kind == message_code code.Hello then hello_fields bytes
     else if kind == message_code code.End then Ok (m.End, bytes) else client_fields kind bytes
@@ -395,7 +395,7 @@ fields_of kind bytes =
 -- the kind and the fields
 unfoldable pub kind_and_fields : Reader Misread Message
 kind_and_fields [] = Err BadKind
-kind_and_fields (kind ∷ bytes) = fields_of kind bytes
+kind_and_fields (kind ∷ bytes) = message_fields kind bytes
 
 -- nothing stands after a message
 abbrev pub nothing_after : Message × List ℕ → Result Message Misread
@@ -426,9 +426,9 @@ unfoldable pub decoded : List ℕ → Result Message WireFault
 decoded body = body_answer (length body) (message_at body)
 
 -- a field and the place after it, in a body of n bytes
-abbrev pub up_to : {A : Type 0} → ℕ → A × List ℕ → A × ℕ
-up_to n x = (x.0, n - length x.1)
+abbrev pub with_place : {A : Type 0} → ℕ → A × List ℕ → A × ℕ
+with_place n x = (x.0, n - length x.1)
 
 -- a field that begins at a place of a body, and the place after it, or the fault by its place
 unfoldable pub field_at : {A : Type 0} → Reader Misread A → List ℕ → ℕ → Result (A × ℕ) WireFault
-field_at field body at = body_answer (length body) (field (drop at body) >>= λ x. Ok (up_to (length body) x))
+field_at field body at = body_answer (length body) (field (drop at body) >>= λ x. Ok (with_place (length body) x))

@@ -8,7 +8,7 @@ use Rattle.salt_value.specs.Jid.{greatest_jid}
 use Rattle.salt_value.specs.Spelling.{bytes, text, joined}
 use Rattle.salt_value.specs.WellFormed.{ValueFits}
 use Rattle.salt_value.specs.declared.value.Value.TheVariants as v
-use Rattle.target_tree.specs.Kinds.{code_of}
+use Rattle.target_tree.specs.Kinds.{kind_code}
 use Rattle.salt_value.specs.Readers.{Reader}
 use Rattle.salt_value.specs.Decoding.{IsBytes}
 use Rattle.salt_wire.specs.declared.fault.Misread.{Misread}
@@ -18,8 +18,8 @@ use Rattle.salt_wire.specs.declared.fault.WireFault.TheVariants as faults
 use Rattle.salt_wire.specs.declared.message.Message.{Message}
 use Rattle.salt_wire.specs.Codes as code
 use Rattle.salt_wire.specs.Codes.{message_code, message_kinds, entry_code, entry_kinds, node_code}
-use Rattle.salt_wire.specs.Spelling.{version, number, id, word, tree, entry, body}
-use Rattle.salt_wire.specs.Limits.{most_target_bytes, most_leaf_ids, most_nodes, most_patterns, most_tree_bytes, most_answer_bytes, is_id, is_leaf_text, IsNumber, IsText, TreeFits, EntryFits, is_status, Within}
+use Rattle.salt_wire.specs.Spelling.{version, number, id, word, tree_bytes, entry, body}
+use Rattle.salt_wire.specs.Limits.{most_target_bytes, most_leaf_ids, most_tree_nodes, most_patterns, most_tree_bytes, most_answer_bytes, is_id, is_leaf_text, IsNumber, IsText, TreeFits, EntryFits, is_status, Within}
 use Rattle.salt_wire.specs.Decoding.{is_text_tag, is_pattern_tag}
 
 -- the fields of messages and entries
@@ -89,8 +89,8 @@ IsRight Id = Spelled id IsId
 IsRight Word = Spelled word IsWord
 IsRight Text = Spelled text IsText
 IsRight (ShortText most) = Spelled text (λ t. IsText t × (length t ≤ most))
-IsRight TargetKind = Spelled (λ kind. code_of kind ∷ []) (λ kind. Unit {0})
-IsRight Tree = Spelled tree TreeFits
+IsRight TargetKind = Spelled (λ kind. kind_code kind ∷ []) (λ kind. Unit {0})
+IsRight Tree = Spelled tree_bytes TreeFits
 IsRight AnyValue = Spelled bytes ValueFits
 IsRight Items = Spelled (λ xs. bytes (v.List xs)) (λ xs. ValueFits (v.List xs))
 IsRight Pairs = Spelled (λ ps. bytes (v.Map ps)) (λ ps. ValueFits (v.Map ps))
@@ -126,8 +126,8 @@ pub data After : Type 0 where
   NoNode : After
 
 -- the tags of nodes, by what stands after them
-abbrev pub after : ℕ → After
-after tag =
+abbrev pub after_bytes : ℕ → After
+after_bytes tag =
     if tag == node_code code.IdList then LeafIds else if tag == node_code code.Not then Subtrees 1 else if tag == node_code code.And then Subtrees 2 else if tag == node_code code.Or then Subtrees 2
     else if is_text_tag tag then LeafText else NoNode
 
@@ -167,7 +167,7 @@ pattern_leaves nodes = count_by (λ (n : Node). is_pattern_tag n.0) nodes
 -- right nodes of so many trees, from the left: before each of them and after the last a node is still to come
 abbrev pub Unended : ℕ → List Node → Type 0
 Unended trees [] = 0 < trees
-Unended trees (n ∷ ns) = (0 < trees) × IsAfter (after n.0) n.1 × Unended (trees - 1 + subtrees (after n.0)) ns
+Unended trees (n ∷ ns) = (0 < trees) × IsAfter (after_bytes n.0) n.1 × Unended (trees - 1 + subtrees (after_bytes n.0)) ns
 
 -- of a tree that may have so many nodes, leaves with a pattern and bytes
 module _ (node_limit pattern_limit byte_limit : ℕ) where
@@ -179,12 +179,12 @@ module _ (node_limit pattern_limit byte_limit : ℕ) where
 
   -- after some nodes the next one may have this tag
   abbrev pub MayHave : List Node → ℕ → Type 0
-  MayHave done tag = (is_node (after tag) ≡ true) × InLimits (done ++ (tag, []) ∷ [])
+  MayHave done tag = (is_node (after_bytes tag) ≡ true) × InLimits (done ++ (tag, []) ∷ [])
 
   -- the node after some nodes is wrong: no tag that it may have stands there, or one does and what stands after it is wrong
   abbrev pub NodeWrong : List Node → Wrong
   NodeWrong done b at = NoneStands (Spelled byte (MayHave done)) b at
-      ⊎ ((tag : ℕ) × (rest : List ℕ) × (b ≡ tag ∷ rest) × MayHave done tag × NoneStands (λ front. IsAfter (after tag) front × InLimits (done ++ (tag, front) ∷ [])) rest at)
+      ⊎ ((tag : ℕ) × (rest : List ℕ) × (b ≡ tag ∷ rest) × MayHave done tag × NoneStands (λ front. IsAfter (after_bytes tag) front × InLimits (done ++ (tag, front) ∷ [])) rest at)
 
   -- right nodes of so many trees stand there, within the limits, and then a wrong one
   abbrev pub NodesWrong : ℕ → Wrong
@@ -192,7 +192,7 @@ module _ (node_limit pattern_limit byte_limit : ℕ) where
 
 -- a tree, within its limits
 abbrev pub TreeWrong : Wrong
-TreeWrong = NodesWrong most_nodes most_patterns most_tree_bytes 1
+TreeWrong = NodesWrong most_tree_nodes most_patterns most_tree_bytes 1
 
 -- a field of a message: only entries and trees are not told at their first byte
 abbrev pub FieldWrong : Field → Wrong

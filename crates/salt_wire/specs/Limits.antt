@@ -9,7 +9,7 @@ use Rattle.salt_value.specs.WellFormed.{ValueFits, is_text}
 use Rattle.salt_value.specs.declared.value.Value.TheVariants as v
 use Rattle.target_tree.specs.declared.target.Target.{Target, fold-Target}
 use Rattle.target_tree.specs.declared.target.Target.TheOpen.{Target-F}
-use Rattle.salt_wire.specs.Spelling.{tree}
+use Rattle.salt_wire.specs.Spelling.{tree_bytes}
 use Rattle.salt_wire.specs.declared.message.Job.{Job}
 use Rattle.salt_wire.specs.declared.message.Entry.{Entry}
 use Rattle.salt_wire.specs.declared.message.Entry.TheVariants.{Return, Fired, Start, Mine}
@@ -31,8 +31,8 @@ abbrev pub most_leaf_ids : ℕ
 most_leaf_ids = 65535
 
 -- the nodes of the greatest tree
-abbrev pub most_nodes : ℕ
-most_nodes = 256
+abbrev pub most_tree_nodes : ℕ
+most_tree_nodes = 256
 
 -- the leaves with a pattern of the greatest tree
 abbrev pub most_patterns : ℕ
@@ -77,14 +77,14 @@ nodes_layer (Target-F.Or left right) = 1 + (left + right)
 nodes_layer leaf = 1
 
 -- one layer of a tree, with the number of pattern leaves of each part in the part's place
-abbrev pub patterns_layer : Target-F ℕ → ℕ
-patterns_layer (Target-F.IdPcre pattern) = 1
-patterns_layer (Target-F.GrainPcre pattern) = 1
-patterns_layer (Target-F.PillarPcre pattern) = 1
-patterns_layer (Target-F.Not part) = part
-patterns_layer (Target-F.And left right) = left + right
-patterns_layer (Target-F.Or left right) = left + right
-patterns_layer leaf = 0
+abbrev pub pattern_count_layer : Target-F ℕ → ℕ
+pattern_count_layer (Target-F.IdPcre pattern) = 1
+pattern_count_layer (Target-F.GrainPcre pattern) = 1
+pattern_count_layer (Target-F.PillarPcre pattern) = 1
+pattern_count_layer (Target-F.Not part) = part
+pattern_count_layer (Target-F.And left right) = left + right
+pattern_count_layer (Target-F.Or left right) = left + right
+pattern_count_layer leaf = 0
 
 -- each leaf has its right text or ids
 abbrev pub right : Target → Bool
@@ -95,14 +95,14 @@ abbrev pub nodes : Target → ℕ
 nodes = fold-Target ℕ nodes_layer
 
 -- how many of them are leaves with a pattern
-abbrev pub patterns : Target → ℕ
-patterns = fold-Target ℕ patterns_layer
+abbrev pub pattern_count : Target → ℕ
+pattern_count = fold-Target ℕ pattern_count_layer
 
 -- a tree within the limits, whose leaves are right
 pub record TreeFits (t : Target) : Type 0 where
-  pub few_nodes : nodes t ≤ most_nodes
-  pub few_patterns : patterns t ≤ most_patterns
-  pub long : length (tree t) ≤ most_tree_bytes
+  pub few_nodes : nodes t ≤ most_tree_nodes
+  pub few_patterns : pattern_count t ≤ most_patterns
+  pub long : length (tree_bytes t) ≤ most_tree_bytes
   pub right_leaves : right t ≡ true
 
 -- a number of 32 bits

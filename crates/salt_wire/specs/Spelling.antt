@@ -3,7 +3,7 @@ use Rattle.std.specs.Prelude.{ℕ, List, [], ◌∷◌, ◌++◌, length, map}
 use Rattle.std.specs.Int.{w16, w32, w64, to_be_bytes}
 use Rattle.salt_value.specs.Spelling.{bytes, text, joined}
 use Rattle.salt_value.specs.declared.value.Value.TheVariants as v
-use Rattle.target_tree.specs.Kinds.{code_of}
+use Rattle.target_tree.specs.Kinds.{kind_code}
 use Rattle.target_tree.specs.declared.target.Target.{Target, fold-Target}
 use Rattle.target_tree.specs.declared.target.Target.TheOpen.{Target-F}
 use Rattle.salt_wire.specs.Codes as code
@@ -40,12 +40,12 @@ tree_layer (Target-F.And left right) = node_code code.And ∷ (left ++ right)
 tree_layer (Target-F.Or left right) = node_code code.Or ∷ (left ++ right)
 
 -- a target's tree
-abbrev pub tree : Target → List ℕ
-tree = fold-Target (List ℕ) tree_layer
+abbrev pub tree_bytes : Target → List ℕ
+tree_bytes = fold-Target (List ℕ) tree_layer
 
 -- a job: jid, kind, text of the target, its tree, function, arguments
 abbrev pub job : Job → List ℕ
-job j = to_be_bytes w64 j.jid ++ (code_of j.kind ∷ (text j.tgt ++ (tree j.target ++ (word j.fun ++ bytes (v.List j.args)))))
+job j = to_be_bytes w64 j.jid ++ (kind_code j.kind ∷ (text j.tgt ++ (tree_bytes j.target ++ (word j.fun ++ bytes (v.List j.args)))))
 
 -- an entry, by its tag
 abbrev pub entry : Entry → List ℕ
@@ -62,10 +62,10 @@ kind_and_fields (Up minion n e) = message_code code.Up ∷ (id minion ++ (number
 kind_and_fields (UpHave minion n) = message_code code.UpHave ∷ (id minion ++ number n)
 kind_and_fields (Hello name) = message_code code.Hello ∷ id name
 kind_and_fields End = message_code code.End ∷ []
-kind_and_fields (AskPublish kind tgt fun args) = message_code code.AskPublish ∷ (code_of kind ∷ (text tgt ++ (word fun ++ bytes (v.List args))))
+kind_and_fields (AskPublish kind tgt fun args) = message_code code.AskPublish ∷ (kind_code kind ∷ (text tgt ++ (word fun ++ bytes (v.List args))))
 kind_and_fields (AskReport jid) = message_code code.AskReport ∷ to_be_bytes w64 jid
 kind_and_fields AskJobs = message_code code.AskJobs ∷ []
-kind_and_fields (AskMine kind tgt fun) = message_code code.AskMine ∷ (code_of kind ∷ (text tgt ++ word fun))
+kind_and_fields (AskMine kind tgt fun) = message_code code.AskMine ∷ (kind_code kind ∷ (text tgt ++ word fun))
 kind_and_fields (Answer status report) = message_code code.Answer ∷ (status ∷ text report)
 
 -- the one version

@@ -150,9 +150,9 @@ fn client_fields(alloc: Global, kind: u8, bytes: &[u8]) -> Parsed<'_, Message>
 }
 
 // The fields of a message of this kind.
-#[tactic(auto, unfolding(crate::specs::Decoding::fields_of))]
+#[tactic(auto, unfolding(crate::specs::Decoding::message_fields))]
 fn fields_of(alloc: Global, kind: u8, bytes: &[u8]) -> Parsed<'_, Message>
-    ensures { Gives NoMemory (λ x. (x.0, x.1.now)) result (spec.fields_of kind bytes.now) }
+    ensures { Gives NoMemory (λ x. (x.0, x.1.now)) result (spec.message_fields kind bytes.now) }
 {
     match kind {
         0x01 => pub_fields(alloc, bytes),

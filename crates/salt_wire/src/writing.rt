@@ -2,7 +2,7 @@
 ghost use Rattle.std.specs.Prelude.{◌≡◌, ◌<◌, ◌≤◌, ◌^◌, ◌++◌, ◌∷◌, true, List, ℕ, length, map, take, OnOk, OnErr};
 ghost use Rattle.std.specs.Int.{w16, w64, to_be_bytes};
 ghost use Rattle.salt_value.specs.Spelling.{bytes, text as spelled_text, joined};
-ghost use Rattle.target_tree.specs.Kinds.{code_of};
+ghost use Rattle.target_tree.specs.Kinds.{kind_code};
 ghost use Rattle.salt_value.specs.WellFormed.{ValueFits};
 ghost use Rattle.salt_value.specs.declared.value.Value.TheVariants as v;
 ghost use Rattle.salt_wire.specs.Spelling as spelling;
@@ -100,7 +100,7 @@ fn put_leaf(out: &mut Vec<u8>, tag: u8, text: &Text) -> Result<(), AllocError>
 // A target's tree.
 fn put_tree(out: &mut Vec<u8>, tree: &Target) -> Result<(), AllocError>
     requires { limits.right tree.now ≡ true }
-    ensures ok { OnOk result (out.new.items ≡ out.old.items ++ spelling.tree tree.now) }
+    ensures ok { OnOk result (out.new.items ≡ out.old.items ++ spelling.tree_bytes tree.now) }
     ensures err { OnErr result ((more : List ℕ) × (out.new.items ≡ out.old.items ++ more)) }
 {
     match tree {
@@ -198,7 +198,7 @@ pub fn put_entry(out: &mut Vec<u8>, entry: &Entry) -> Result<(), AllocError>
 // A kind of target, a text and a function's name.
 fn put_asked(out: &mut Vec<u8>, kind: Kind, tgt: &Text, fun: &Word) -> Result<(), AllocError>
     requires { IsText tgt.now }
-    ensures ok { OnOk result (out.new.items ≡ out.old.items ++ code_of kind ∷ (spelled_text tgt.now ++ spelling.word fun.now)) }
+    ensures ok { OnOk result (out.new.items ≡ out.old.items ++ kind_code kind ∷ (spelled_text tgt.now ++ spelling.word fun.now)) }
     ensures err { OnErr result ((more : List ℕ) × (out.new.items ≡ out.old.items ++ more)) }
 {
     out.push(kind.code())?;

@@ -27,12 +27,12 @@ plain_words =
     codes "null" ∷ codes "true" ∷ codes "True" ∷ codes "TRUE" ∷ codes "false" ∷ codes "False" ∷ codes "FALSE" ∷ []
 
 -- does it begin with a letter, and is it no such word
-abbrev pub is_name : List ℕ → Bool
-is_name id = begins_with_letter id && not (list_any (bytes_eq id) plain_words)
+abbrev pub is_node_name : List ℕ → Bool
+is_node_name id = begins_with_letter id && not (list_any (bytes_eq id) plain_words)
 
 -- an id that begins with a letter and is none of these words
 abbrev pub IsName : List ℕ → Type 0
-IsName id = IsId id × IsTrue (is_name id)
+IsName id = IsId id × IsTrue (is_node_name id)
 
 -- a byte from 0x21 to 0x7E, but no `"` and no `\`
 abbrev pub is_pattern_byte : ℕ → Bool

@@ -32,7 +32,7 @@ fn is_plain_word(id: &[u8]) -> bool
 }
 
 fn is_name(id: &[u8]) -> bool
-    ensures { result ≡ spec.is_name id.now }
+    ensures { result ≡ spec.is_node_name id.now }
 {
     begins_with_letter(id) && !is_plain_word(id)
 }

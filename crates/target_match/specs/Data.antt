@@ -7,7 +7,7 @@ use Rattle.salt_value.specs.Keys.{under}
 use Rattle.salt_value.specs.Scalar.{flag_text}
 use Rattle.salt_value.specs.declared.value.Value.{Value, fold-Value}
 use Rattle.salt_value.specs.declared.value.Value.TheOpen.{Value-F}
-use Rattle.target_match.specs.Paths.{joined}
+use Rattle.target_match.specs.Paths.{joined_path}
 
 -- whether a value passes, given the parts that are left
 abbrev pub Test : Type 0
@@ -26,10 +26,10 @@ map_meets pairs (p ∷ q ∷ ps) = child_passes (under p pairs) (q ∷ ps)
 
 -- a scalar meets the parts that are left, joined, by its text; a list by one of its members
 abbrev pub meets_layer : Value-F Test → Test
-meets_layer Value-F.Null ps = glob_caseless (joined ps) (codes "None")
-meets_layer (Value-F.Flag flag) ps = glob_caseless (joined ps) (flag_text flag)
-meets_layer (Value-F.Int number) ps = glob_caseless (joined ps) (signed_decimal number)
-meets_layer (Value-F.Str text) ps = glob_caseless (joined ps) text
+meets_layer Value-F.Null ps = glob_caseless (joined_path ps) (codes "None")
+meets_layer (Value-F.Flag flag) ps = glob_caseless (joined_path ps) (flag_text flag)
+meets_layer (Value-F.Int number) ps = glob_caseless (joined_path ps) (signed_decimal number)
+meets_layer (Value-F.Str text) ps = glob_caseless (joined_path ps) text
 meets_layer (Value-F.List items) ps = list_any (λ item. item ps) items
 meets_layer (Value-F.Map pairs) ps = map_meets pairs ps
 

@@ -1,7 +1,7 @@
 //! The parts of a text between its colons.
 ghost use Rattle.std.specs.Prelude.{◌≡◌, ◌<◌, ◌∷◌, [], length, IfOk, IfSome, IfNone};
 ghost use Rattle.std.specs.List.{list_all};
-ghost use Rattle.target_match.specs.Paths.{parts, path_of, pattern_of, is_name, is_name_byte};
+ghost use Rattle.target_match.specs.Paths.{parts, path_of, pattern_of, is_key_name, is_name_byte};
 
 use salt_value::Text;
 use std::alloc::{AllocError, Global};
@@ -36,7 +36,7 @@ fn are_name_bytes(bytes: &[u8]) -> bool
 
 /// Whether a part may be one of a path: at least one byte, each of them a letter, a digit, `_` or `-`.
 fn is_name(part: &[u8]) -> bool
-    ensures { result ≡ is_name part.now }
+    ensures { result ≡ is_key_name part.now }
 {
     !part.is_empty() && are_name_bytes(part)
 }

@@ -10,7 +10,7 @@ use Rattle.target_tree.specs.declared.token.Token.TheVariants.{AndWord, OrWord, 
 use Rattle.target_tree.specs.Words.{tokens_of}
 use Rattle.target_tree.specs.Nodegroups.{text_named, is_among}
 use Rattle.salt_value.specs.Readers.{◌>>=◌}
-use Rattle.target_tree.specs.Reading.{State, Answer, operand_word, operator_word, closing, closed, resumed, found, one_word, all_words, text_end, whole_text, group_word}
+use Rattle.target_tree.specs.Reading.{State, ReadAnswer, operand_word, operator_word, closing, after_closing, resumed, group_answer, one_word, all_words, text_end, whole_text, group_word}
 use Rattle.target_tree.specs.declared.reader.Part.{Part}
 use Rattle.target_tree.specs.declared.reader.Reader.{Reader as Machine}
 use Rattle.target_tree.specs.Machine.{counts_of, Step, level_of, machine_operand, machine_operator, machine_closing, machine_by, machine_closed, machine_word, machine_all, machine_end, machine_end_by, machine_text, machine_begun, machine_found, machine_resumed, machine_group, state_of, is_due}
@@ -28,7 +28,7 @@ pub erased-bind : {A B C D : Type 0} (f : A → C) (h : B → D) (r : Result A T
 erased-bind {C = C} f h (Ok x) k s l e each = each x ∙ ap (λ (a : Result C TargetFault). a >>= l) e
 erased-bind {C = C} f h (Err x) k s l e each = ap (λ (a : Result C TargetFault). a >>= l) e
 
-module _ (group : List ℕ → Machine → Step) (reads : List ℕ → State → Answer) (same : (name : List ℕ) (m : Machine) → erased state_of (group name m) ≡ reads name (state_of m)) where
+module _ (group : List ℕ → Machine → Step) (reads : List ℕ → State → ReadAnswer) (same : (name : List ℕ) (m : Machine) → erased state_of (group name m) ≡ reads name (state_of m)) where
   erase-operand : (w : Token) (m : Machine) → erased state_of (machine_operand group w m) ≡ operand_word reads w (state_of m)
   erase-operand NotWord m = erased-cond state_of (nat_le 64 m.part.nest.deep) TooDeep _ _ refl
   erase-operand OpenWord m = erased-cond state_of (nat_le 64 m.part.nest.deep) TooDeep _ _ refl
@@ -57,18 +57,18 @@ erase-operator t (Nodegroup name) m = refl
 erase-operator t NoLetter m = refl
 erase-operator t NoLeaf m = refl
 
-erase-closed : (t : Target) (parts : List Part) (m : Machine) → erased counts_of (machine_closed t parts m) ≡ closed (map level_of parts) (state_of m)
+erase-closed : (t : Target) (parts : List Part) (m : Machine) → erased counts_of (machine_closed t parts m) ≡ after_closing (map level_of parts) (state_of m)
 erase-closed t [] m = refl
 erase-closed t (part ∷ parts) m = refl
 
-erase-end_by : (last : Option Target) (m : Machine) → erased counts_of (machine_end_by last m) ≡ (if is_due last then Err (Word m.at) else closed (map level_of m.parts) (state_of m))
+erase-end_by : (last : Option Target) (m : Machine) → erased counts_of (machine_end_by last m) ≡ (if is_due last then Err (Word m.at) else after_closing (map level_of m.parts) (state_of m))
 erase-end_by None m = refl
 erase-end_by (Some t) m = erase-closed t m.parts m
 
 pub erase-end : (m : Machine) → erased counts_of (machine_end m) ≡ text_end (state_of m)
 erase-end m = erase-end_by m.last m
 
-module _ (group : List ℕ → Machine → Step) (reads : List ℕ → State → Answer) (same : (name : List ℕ) (m : Machine) → erased state_of (group name m) ≡ reads name (state_of m)) where
+module _ (group : List ℕ → Machine → Step) (reads : List ℕ → State → ReadAnswer) (same : (name : List ℕ) (m : Machine) → erased state_of (group name m) ≡ reads name (state_of m)) where
   erase-by : (w : Token) (last : Option Target) (m : Machine) → erased state_of (machine_by group w last m) ≡ (if is_due last then operand_word reads w (state_of m) else operator_word w (state_of m))
   erase-by w None m = erase-operand group reads same w m
   erase-by w (Some t) m = erase-operator t w m
@@ -86,9 +86,9 @@ module _ (group : List ℕ → Machine → Step) (reads : List ℕ → State →
       (erased-cond counts_of (nat_le 4097 (length text)) TooLong _ _
       (erased-bind state_of counts_of (machine_all group (tokens_of text) m) machine_end _ text_end (erase-all (tokens_of text) m) erase-end))
 
-erase-found : (group : List (List ℕ) → List ℕ → Machine → Step) (reads : List (List ℕ) → List ℕ → State → Answer)
+erase-found : (group : List (List ℕ) → List ℕ → Machine → Step) (reads : List (List ℕ) → List ℕ → State → ReadAnswer)
     → ((names : List (List ℕ)) (name : List ℕ) (m : Machine) → erased state_of (group names name m) ≡ reads names name (state_of m))
-    → (names : List (List ℕ)) (name : List ℕ) (m : Machine) (text : Option (List ℕ)) → erased state_of (machine_found group names name m text) ≡ found reads names name (state_of m) text
+    → (names : List (List ℕ)) (name : List ℕ) (m : Machine) (text : Option (List ℕ)) → erased state_of (machine_found group names name m text) ≡ group_answer reads names name (state_of m) text
 erase-found group reads same names name m None = refl
 erase-found group reads same names name m (Some text) =
     erased-cond state_of (is_among names name) (Circle m.at) _ _

@@ -8,7 +8,7 @@ use Rattle.std.proofs.lemmas.List.Folds.{list_all-append}
 use Rattle.salt_value.specs.Id.{IsId, is_id_byte}
 use Rattle.target_tree.specs.declared.target.Target.TheVariants.{IdList}
 use Rattle.target_tree.specs.declared.token.Token.TheVariants.{Leaf, NoLeaf}
-use Rattle.target_tree.specs.Words.{id_list, is_id, items_of, trimmed}
+use Rattle.target_tree.specs.Words.{id_list, is_id, list_items, trimmed}
 use Rattle.target_tree.proofs.Cuts.{uncut}
 
 both-true : (a b : Bool) → (a && b) ≡ true → (a ≡ true) × (b ≡ true)
@@ -39,14 +39,14 @@ abbrev pub comma : ℕ → Bool
 comma b = nat_eq b 44
 
 -- the first item, and the others
-pub items-more : (text item rest : List ℕ) → item ≡ before_first comma text → rest ≡ after_first comma text → position_or_len comma text < length text → items_of text ≡ trimmed item ∷ items_of rest
-unfolding items_of
+pub items-more : (text item rest : List ℕ) → item ≡ before_first comma text → rest ≡ after_first comma text → position_or_len comma text < length text → list_items text ≡ trimmed item ∷ list_items rest
+unfolding list_items
 items-more text item rest e f h =
     let cut : slice_split comma text ≡ item ∷ slice_split comma rest = slice_split_first comma text 0 h ∙ cc in
     ap (map trimmed) cut
 
-pub items-last : (text : List ℕ) → ((i : ℕ) → i < length text → get_or text i 0 ≢ 44) → items_of text ≡ trimmed text ∷ []
-unfolding items_of
+pub items-last : (text : List ℕ) → ((i : ℕ) → i < length text → get_or text i 0 ≢ 44) → list_items text ≡ trimmed text ∷ []
+unfolding list_items
 items-last text h = ap (map trimmed) (uncut 44 text h)
 
 false-and : (a b : Bool) → b ≡ false → (a && b) ≡ false
@@ -54,40 +54,40 @@ false-and true b e = e
 false-and false b e = refl
 
 -- an item that is no id
-pub items-bad : (text : List ℕ) (ids more : List (List ℕ)) (item : List ℕ) → items_of text ≡ ids ++ item ∷ more → is_id item ≡ false → NoLeaf ≡ id_list text
+pub items-bad : (text : List ℕ) (ids more : List (List ℕ)) (item : List ℕ) → list_items text ≡ ids ++ item ∷ more → is_id item ≡ false → NoLeaf ≡ id_list text
 unfolding id_list
 items-bad text ids more item e bad =
-    let none : list_all is_id (items_of text) ≡ false =
+    let none : list_all is_id (list_items text) ≡ false =
     ap (list_all is_id) e ∙ (list_all-append is_id ids (item ∷ more) ∙ false-and (list_all is_id ids) (is_id item && list_all is_id more) (ap (λ (b : Bool). b && list_all is_id more) bad)) in
-    sym (ap (λ (b : Bool). if b then Leaf (IdList (items_of text)) else NoLeaf) none)
+    sym (ap (λ (b : Bool). if b then Leaf (IdList (list_items text)) else NoLeaf) none)
 
 -- one id more
 pub ids-more : (ids : List (List ℕ)) (item : List ℕ) → list_all is_id ids ≡ true → is_id item ≡ true → list_all is_id (ids ++ item ∷ []) ≡ true
 ids-more ids item e f = list_all-append is_id ids (item ∷ []) ∙ rw (e, f) refl
 
 -- all are ids
-pub items-good : (text : List ℕ) (ids : List (List ℕ)) → items_of text ≡ ids → list_all is_id ids ≡ true → Leaf (IdList ids) ≡ id_list text
+pub items-good : (text : List ℕ) (ids : List (List ℕ)) → list_items text ≡ ids → list_all is_id ids ≡ true → Leaf (IdList ids) ≡ id_list text
 unfolding id_list
 items-good text ids e good =
-    let all : list_all is_id (items_of text) ≡ true = ap (list_all is_id) e ∙ good in
-    ap (λ (x : List (List ℕ)). Leaf (IdList x)) (sym e) ∙ sym (ap (λ (b : Bool). if b then Leaf (IdList (items_of text)) else NoLeaf) all)
+    let all : list_all is_id (list_items text) ≡ true = ap (list_all is_id) e ∙ good in
+    ap (λ (x : List (List ℕ)). Leaf (IdList x)) (sym e) ∙ sym (ap (λ (b : Bool). if b then Leaf (IdList (list_items text)) else NoLeaf) all)
 
 -- the items after ids that were read
 pub next-item : (ids : List (List ℕ)) (text item rest : List ℕ) → item ≡ before_first comma text → rest ≡ after_first comma text → position_or_len comma text < length text
-    → ids ++ items_of text ≡ ids ++ trimmed item ∷ items_of rest
+    → ids ++ list_items text ≡ ids ++ trimmed item ∷ list_items rest
 next-item ids text item rest e f h = ap (λ (x : List (List ℕ)). ids ++ x) (items-more text item rest e f h)
 
-pub last-item : (ids : List (List ℕ)) (text : List ℕ) → ((i : ℕ) → i < length text → get_or text i 0 ≢ 44) → ids ++ items_of text ≡ ids ++ trimmed text ∷ []
+pub last-item : (ids : List (List ℕ)) (text : List ℕ) → ((i : ℕ) → i < length text → get_or text i 0 ≢ 44) → ids ++ list_items text ≡ ids ++ trimmed text ∷ []
 last-item ids text h = ap (λ (x : List (List ℕ)). ids ++ x) (items-last text h)
 
 pub one-more : (ids : List (List ℕ)) (text item rest id : List ℕ) (more : List (List ℕ)) → item ≡ before_first comma text → rest ≡ after_first comma text → position_or_len comma text < length text
-    → id ≡ trimmed item → more ≡ ids ++ id ∷ [] → ids ++ items_of text ≡ more ++ items_of rest
+    → id ≡ trimmed item → more ≡ ids ++ id ∷ [] → ids ++ list_items text ≡ more ++ list_items rest
 one-more ids text item rest id more e f h same pushed =
     next-item ids text item rest e f h
-    ∙ (ap (λ (x : List ℕ). ids ++ x ∷ items_of rest) (sym same) ∙ (sym (append_assoc ids (id ∷ []) (items_of rest)) ∙ ap (λ (x : List (List ℕ)). x ++ items_of rest) (sym pushed)))
+    ∙ (ap (λ (x : List ℕ). ids ++ x ∷ list_items rest) (sym same) ∙ (sym (append_assoc ids (id ∷ []) (list_items rest)) ∙ ap (λ (x : List (List ℕ)). x ++ list_items rest) (sym pushed)))
 
 pub last-more : (ids : List (List ℕ)) (text id : List ℕ) (more : List (List ℕ)) → ((i : ℕ) → i < length text → get_or text i 0 ≢ 44) → id ≡ trimmed text → more ≡ ids ++ id ∷ []
-    → ids ++ items_of text ≡ more
+    → ids ++ list_items text ≡ more
 last-more ids text id more h same pushed = last-item ids text h ∙ (ap (λ (x : List ℕ). ids ++ x ∷ []) (sym same) ∙ sym pushed)
 
 pub all-more : (ids : List (List ℕ)) (id : List ℕ) (more : List (List ℕ)) → list_all is_id ids ≡ true → is_id id ≡ true → more ≡ ids ++ id ∷ [] → list_all is_id more ≡ true

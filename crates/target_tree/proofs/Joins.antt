@@ -12,7 +12,7 @@ use Rattle.target_tree.specs.declared.fault.TargetFault.{TargetFault}
 use Rattle.target_tree.specs.declared.fault.TargetFault.TheVariants.{NoMemory, Empty, TooLong}
 use Rattle.salt_value.specs.Readers.{◌>>=◌}
 use Rattle.target_tree.specs.Reading.{Counts, text_end, group_word, IsFaultAsRead}
-use Rattle.target_tree.specs.Machine.{joined_or, Gives, counts_of, state_of, machine_all, machine_group, machine_begun, machine_end, machine_target, tree_of, machine_tree}
+use Rattle.target_tree.specs.Machine.{joined_or, GivesTree, counts_of, state_of, machine_all, machine_group, machine_begun, machine_end, machine_target, tree_of, machine_tree}
 use Rattle.target_tree.specs.Targets.{IsTarget, IsReadUnlessLimit, IsReadUnlessRefused, IsAsRead, reading, target_words, sole_word}
 use Rattle.target_tree.specs.declared.kind.Kind.TheVariants.{Compound}
 use Rattle.target_tree.specs.Going.{Goes, going, within}
@@ -80,16 +80,16 @@ only-clause kind groups text t h u tree =
     let e = bind_ok (machine_target kind groups text) tree_of t h in
     one-tree kind groups text e.0 u e.1 tree ∙ ok_is _ _ e.2
 
-pub if-tree : (kind : Kind) (groups : List Group) (text : List ℕ) (r : Result Target TargetFault) → Gives r (machine_tree kind groups text) → IfOk r (IsTarget kind groups text)
+pub if-tree : (kind : Kind) (groups : List Group) (text : List ℕ) (r : Result Target TargetFault) → GivesTree r (machine_tree kind groups text) → IfOk r (IsTarget kind groups text)
 if-tree kind groups text (Ok t) h = tree-clause kind groups text t h
 if-tree kind groups text (Err f) h = tt
 
-pub if-only : (kind : Kind) (groups : List Group) (text : List ℕ) (r : Result Target TargetFault) → Gives r (machine_tree kind groups text)
+pub if-only : (kind : Kind) (groups : List Group) (text : List ℕ) (r : Result Target TargetFault) → GivesTree r (machine_tree kind groups text)
     → IfOk r (λ tree. (other : Target) → IsTarget kind groups text other → other ≡ tree)
 if-only kind groups text (Ok t) h = only-clause kind groups text t h
 if-only kind groups text (Err f) h = tt
 
-pub fault-clause : (kind : Kind) (groups : List Group) (text : List ℕ) (r : Result Target TargetFault) → Gives r (machine_target kind groups text >>= tree_of) → IsAsRead r (reading kind groups text)
+pub fault-clause : (kind : Kind) (groups : List Group) (text : List ℕ) (r : Result Target TargetFault) → GivesTree r (machine_target kind groups text >>= tree_of) → IsAsRead r (reading kind groups text)
 fault-clause kind groups text (Ok t) h =
     let e = bind_ok (machine_target kind groups text) tree_of t h in
     subst (λ (x : Result Counts TargetFault). IsOk x) (same-faults kind groups text) (subst (λ (x : Result Ended TargetFault). IsOk (erased counts_of x)) (sym e.1) refl)
@@ -105,7 +105,7 @@ limit-or-memory : (f : TargetFault) (read : Result Counts TargetFault) → IsFau
 limit-or-memory NoMemory read h l = tt
 limit-or-memory f read h l = subst (λ (r : Result Counts TargetFault). IsReadUnlessLimit r) h l
 
-pub complete-clause : (kind : Kind) (groups : List Group) (text : List ℕ) (r : Result Target TargetFault) → Gives r (machine_target kind groups text >>= tree_of)
+pub complete-clause : (kind : Kind) (groups : List Group) (text : List ℕ) (r : Result Target TargetFault) → GivesTree r (machine_target kind groups text >>= tree_of)
     → (t : Target) → IsTarget kind groups text t → IsReadUnlessRefused r
 complete-clause kind groups text (Ok u) h t tree = tt
 complete-clause kind groups text (Err f) h t tree = limit-or-memory f (reading kind groups text) (fault-clause kind groups text (Err f) h) (read-unless-limit kind groups text t tree)
@@ -115,8 +115,8 @@ going-first : (groups : List Group) (words : List Token) → ((machine_all (mach
 unfolding going
 going-first groups words = refl
 
-pub compound-run : (groups : List Group) (text rest : List ℕ) (r : Result Target TargetFault) → within text ≡ Ok rest → Gives r (going 257 groups [] (tokens_of rest) (machine_begun 0 0 0)) → Gives r (machine_tree Compound groups text)
-compound-run groups text rest r h g = subst (λ (x : Result Target TargetFault). Gives r x) (sym (by (nat_le (length (tokens_of text)) 0) (nat_le 4097 (length text)) h)) g
+pub compound-run : (groups : List Group) (text rest : List ℕ) (r : Result Target TargetFault) → within text ≡ Ok rest → GivesTree r (going 257 groups [] (tokens_of rest) (machine_begun 0 0 0)) → GivesTree r (machine_tree Compound groups text)
+compound-run groups text rest r h g = subst (λ (x : Result Target TargetFault). GivesTree r x) (sym (by (nat_le (length (tokens_of text)) 0) (nat_le 4097 (length text)) h)) g
   where
     by : (a b : Bool) → (if a then Err Empty else if b then Err TooLong else Ok text) ≡ Ok rest
         → ((if a then Err Empty else if b then Err TooLong else (machine_all (machine_group 257 groups []) (tokens_of text) (machine_begun 0 0 0) >>= machine_end)) >>= tree_of) ≡ going 257 groups [] (tokens_of rest) (machine_begun 0 0 0)
@@ -155,9 +155,9 @@ sole-begun groups os m w sole none a b c d =
 
 pub sole-run : (kind : Kind) (groups : List Group) (text : List ℕ) (os new : List Outer) (m next : Machine) (w : Token) (none rest : List ℕ) (r : Result Target TargetFault)
     → kind ≢ Compound → nat_eq (length text) 0 ≡ false → length text ≤ 4096 → os ≡ [] → m ≡ machine_begun 0 0 0 → w ≡ sole_word kind text → tokens_of none ≡ []
-    → Goes groups os new m (w ∷ tokens_of none) next rest → Gives r (going (257 - length new) groups new (tokens_of rest) next) → Gives r (machine_tree kind groups text)
+    → Goes groups os new m (w ∷ tokens_of none) next rest → GivesTree r (going (257 - length new) groups new (tokens_of rest) next) → GivesTree r (machine_tree kind groups text)
 sole-run kind groups text os new m next w none rest r other some few a b c d goes h =
-    subst (λ (x : Result Target TargetFault). Gives r x) (sym (sole-tree kind groups text other some few ∙ (sole-begun groups os m w (sole_word kind text) none a b c d ∙ goes.same))) h
+    subst (λ (x : Result Target TargetFault). GivesTree r x) (sym (sole-tree kind groups text other some few ∙ (sole-begun groups os m w (sole_word kind text) none a b c d ∙ goes.same))) h
 
 pub sole-fails : (kind : Kind) (groups : List Group) (text : List ℕ) (os : List Outer) (m : Machine) (w : Token) (none : List ℕ) (f : TargetFault)
     → kind ≢ Compound → nat_eq (length text) 0 ≡ false → length text ≤ 4096 → os ≡ [] → m ≡ machine_begun 0 0 0 → w ≡ sole_word kind text → tokens_of none ≡ []

@@ -18,7 +18,7 @@ use Rattle.target_tree.specs.Nodegroups.{text_named, is_among}
 use Rattle.salt_value.specs.Readers.{◌>>=◌}
 use Rattle.target_tree.specs.Reading.{IsFaultAsRead}
 use Rattle.target_tree.specs.Machine.{Step, machine_operator, machine_closing, machine_operand, machine_by, machine_word, machine_all, machine_end, machine_end_by, machine_closed, machine_resumed, machine_group, machine_found, machine_text, machine_begun, no_group}
-use Rattle.target_tree.specs.Going.{Goes, going, names_of, within, entered_by, opened_by, opened}
+use Rattle.target_tree.specs.Going.{Goes, going, names_of, within, entered_by, opened_by, group_text}
 
 abbrev pub IsPlain : Token → Type 0
 IsPlain (Nodegroup name) = ⊥
@@ -98,7 +98,7 @@ by-opened depth groups names name m None = found-entered depth groups names name
 by-opened depth groups names name m (Some t) = refl
 
 word-opened : (depth : ℕ) (groups : List Group) (names : List (List ℕ)) (name : List ℕ) (m : Machine)
-    → machine_word (machine_group (suc depth) groups names) (Nodegroup name) m ≡ (opened groups names name m >>= inner depth groups (name ∷ names) m)
+    → machine_word (machine_group (suc depth) groups names) (Nodegroup name) m ≡ (group_text groups names name m >>= inner depth groups (name ∷ names) m)
 word-opened depth groups names name m = tested (nat_le 256 m.at)
   where
     tested : (a : Bool) → (if a then Err TooManyWords else machine_by (machine_group (suc depth) groups names) (Nodegroup name) m.last m)
@@ -107,14 +107,14 @@ word-opened depth groups names name m = tested (nat_le 256 m.at)
     tested false = by-opened depth groups names name m m.last
 
 -- a nodegroup's word
-pub going-open : (depth : ℕ) (groups : List Group) (o : Outer) (os : List Outer) (text : List ℕ) → opened groups (names_of os) o.name o.reader ≡ Ok text
+pub going-open : (depth : ℕ) (groups : List Group) (o : Outer) (os : List Outer) (text : List ℕ) → group_text groups (names_of os) o.name o.reader ≡ Ok text
     → going (suc depth) groups os (Nodegroup o.name ∷ tokens_of o.rest.now) o.reader ≡ going depth groups (o ∷ os) (tokens_of text) (machine_begun o.reader.part.nest.deep (o.reader.at + 1) o.reader.patterns)
 unfolding going
 going-open depth groups o os text e =
     let step = word-opened depth groups (names_of os) o.name o.reader ∙ ap (λ (r : Result (List ℕ) TargetFault). r >>= inner depth groups (o.name ∷ names_of os) o.reader) e in
     going-step (suc depth) groups os (Nodegroup o.name) (tokens_of o.rest.now) o.reader _ step
 
-pub going-shut : (depth : ℕ) (groups : List Group) (os : List Outer) (name : List ℕ) (ws : List Token) (m : Machine) (f : TargetFault) → opened groups (names_of os) name m ≡ Err f
+pub going-shut : (depth : ℕ) (groups : List Group) (os : List Outer) (name : List ℕ) (ws : List Token) (m : Machine) (f : TargetFault) → group_text groups (names_of os) name m ≡ Err f
     → going (suc depth) groups os (Nodegroup name ∷ ws) m ≡ Err f
 going-shut depth groups os name ws m f e =
     going-step (suc depth) groups os (Nodegroup name) ws m (Err f) (word-opened depth groups (names_of os) name m ∙ ap (λ (r : Result (List ℕ) TargetFault). r >>= inner depth groups (name ∷ names_of os) m) e)
@@ -123,14 +123,14 @@ pub carry : {A B : Type 0} (f : TargetFault) (to : Result A TargetFault) (on : R
 carry NoMemory to on h each = tt
 carry f to on h each = each h
 
-pub opened-at : (groups : List Group) (names : List (List ℕ)) (name : List ℕ) (m : Machine) (text : List ℕ) → opened groups names name m ≡ Ok text → m.at < 256
+pub opened-at : (groups : List Group) (names : List (List ℕ)) (name : List ℕ) (m : Machine) (text : List ℕ) → group_text groups names name m ≡ Ok text → m.at < 256
 opened-at groups names name m text e = tested (nat_le 256 m.at) refl e
   where
     tested : (b : Bool) → nat_le 256 m.at ≡ b → (if b then Err TooManyWords else opened_by groups names name m.at m.last) ≡ Ok text → m.at < 256
     tested true le h = cc
     tested false le h = grind (arith, nat_tests)
 
-pub goes-open : (groups : List Group) (o : Outer) (os new : List Outer) (text : List ℕ) (next : Machine) → length os ≤ o.reader.at → opened groups (names_of os) o.name o.reader ≡ Ok text
+pub goes-open : (groups : List Group) (o : Outer) (os new : List Outer) (text : List ℕ) (next : Machine) → length os ≤ o.reader.at → group_text groups (names_of os) o.name o.reader ≡ Ok text
     → new ≡ o ∷ os → next ≡ machine_begun o.reader.part.nest.deep (o.reader.at + 1) o.reader.patterns → Goes groups os new o.reader (Nodegroup o.name ∷ tokens_of o.rest.now) next text
 goes-open groups o os new text next le e pushed begun =
     let few : o.reader.at < 256 = opened-at groups (names_of os) o.name o.reader text e in
@@ -149,11 +149,11 @@ goes-open groups o os new text next le e pushed begun =
       nested = omega arith;
     }
 
-pub shut-goes : (groups : List Group) (os : List Outer) (name : List ℕ) (ws : List Token) (m : Machine) (f : TargetFault) → length os ≤ m.at → m.at ≤ 256 → IsFaultAsRead f (opened groups (names_of os) name m)
+pub shut-goes : (groups : List Group) (os : List Outer) (name : List ℕ) (ws : List Token) (m : Machine) (f : TargetFault) → length os ≤ m.at → m.at ≤ 256 → IsFaultAsRead f (group_text groups (names_of os) name m)
     → IsFaultAsRead f (going (257 - length os) groups os (Nodegroup name ∷ ws) m)
 shut-goes groups os name ws m f le few h =
     let outside : 257 - length os ≡ suc (256 - length os) = omega arith in
-    carry f (opened groups (names_of os) name m) (going (257 - length os) groups os (Nodegroup name ∷ ws) m) h
+    carry f (group_text groups (names_of os) name m) (going (257 - length os) groups os (Nodegroup name ∷ ws) m) h
     (λ e. ap (λ (d : ℕ). going d groups os (Nodegroup name ∷ ws) m) outside ∙ going-shut (256 - length os) groups os name ws m f e)
 
 operand-at : (w : Token) (m new : Machine) → machine_operand no_group w m ≡ Ok new → new.at ≡ m.at + 1

@@ -5,7 +5,7 @@ use Rattle.std.proofs.lemmas.Slice.Eq.{bytes_eq-Decides}
 use Rattle.std.proofs.lemmas.Bool.Decides.{nat_tests}
 use Rattle.target_tree.specs.declared.kind.Kind.{Kind}
 use Rattle.target_tree.specs.declared.kind.Kind.TheVariants.{Glob, Pcre, List, Grain, GrainPcre, Pillar, PillarPcre, Nodegroup, Compound}
-use Rattle.target_tree.specs.Kinds.{TheKind, code_of, name_of}
+use Rattle.target_tree.specs.Kinds.{TheKind, kind_code, name_of}
 
 -- the first kind that passes a test
 abbrev pub first_kind : (Kind → Bool) → Texts Kind → Option Kind
@@ -19,7 +19,7 @@ abbrev pub named : Texts ℕ → Kind → Bool
 named name kind = bytes_eq (name_of kind) name
 
 abbrev pub coded : ℕ → Kind → Bool
-coded code kind = nat_eq (code_of kind) code
+coded code kind = nat_eq (kind_code kind) code
 
 -- each kind is the first with its own name, and with its own code
 finds_name : (kind : Kind) → first_kind (named (name_of kind)) all_kinds ≡ Some kind
@@ -33,7 +33,7 @@ finds_name PillarPcre = refl
 finds_name Nodegroup = refl
 finds_name Compound = refl
 
-finds_code : (kind : Kind) → first_kind (coded (code_of kind)) all_kinds ≡ Some kind
+finds_code : (kind : Kind) → first_kind (coded (kind_code kind)) all_kinds ≡ Some kind
 finds_code Glob = refl
 finds_code Pcre = refl
 finds_code List = refl
@@ -68,9 +68,9 @@ kind_named name found e =
     the_kind (λ kind. name_of kind ≡ name) (named name) (λ kind h. (bytes_eq-Decides (name_of kind) name).0 h)
     (λ kind h. ap (λ (n : Texts ℕ). first_kind (named n) all_kinds) (sym h) ∙ finds_name kind) found e
 
-pub kind_coded : (code : ℕ) (found : Option Kind) → first_kind (coded code) all_kinds ≡ found → TheKind (λ kind. code_of kind ≡ code) found
+pub kind_coded : (code : ℕ) (found : Option Kind) → first_kind (coded code) all_kinds ≡ found → TheKind (λ kind. kind_code kind ≡ code) found
 kind_coded code found e =
-    the_kind (λ kind. code_of kind ≡ code) (coded code) (λ kind h. grind (arith, nat_tests))
+    the_kind (λ kind. kind_code kind ≡ code) (coded code) (λ kind h. grind (arith, nat_tests))
     (λ kind h. ap (λ (n : ℕ). first_kind (coded n) all_kinds) (sym h) ∙ finds_code kind) found e
 
 -- a kind that doesn't pass is passed over

@@ -48,8 +48,8 @@ opened_by groups names name at None = entered groups names name at
 opened_by groups names name at (Some t) = Err (Word at)
 
 -- the same where words may still come
-abbrev pub opened : List Group → List (List ℕ) → List ℕ → Machine → Result (List ℕ) TargetFault
-opened groups names name m = if nat_le most_words m.at then Err TooManyWords else opened_by groups names name m.at m.last
+abbrev pub group_text : List Group → List (List ℕ) → List ℕ → Machine → Result (List ℕ) TargetFault
+group_text groups names name m = if nat_le most_words m.at then Err TooManyWords else opened_by groups names name m.at m.last
 
 -- What a function returned, seen by `view`, is what is to be given, unless memory ran out.
 abbrev pub GivesBy : {A B : Type 0} → (A → B) → Result A TargetFault → Result B TargetFault → Type 0
@@ -64,6 +64,6 @@ pub record Goes (groups : List Group) (old new : List Outer) (reader : Machine) 
   pub nested : length new ≤ length old + 1
 
 -- A step goes on so, or its fault is that of what is left, unless memory ran out.
-abbrev pub GoesOn : List Group → List Outer → List Outer → Machine → List Token → Result (Machine × Bor (List ℕ)) TargetFault → Type 0
-GoesOn groups old new reader words (Ok x) = Goes groups old new reader words x.0 x.1.now
-GoesOn groups old new reader words (Err e) = IsFaultAsRead e (going (most_texts - length old) groups old words reader)
+abbrev pub ReadsOn : List Group → List Outer → List Outer → Machine → List Token → Result (Machine × Bor (List ℕ)) TargetFault → Type 0
+ReadsOn groups old new reader words (Ok x) = Goes groups old new reader words x.0 x.1.now
+ReadsOn groups old new reader words (Err e) = IsFaultAsRead e (going (most_texts - length old) groups old words reader)

@@ -21,8 +21,8 @@ row Nodegroup = record { code = 8; name = codes "nodegroup" }
 row Compound = record { code = 9; name = codes "compound" }
 
 -- the code and the name of a kind
-abbrev pub code_of : Kind → ℕ
-code_of kind = (row kind).code
+abbrev pub kind_code : Kind → ℕ
+kind_code kind = (row kind).code
 
 abbrev pub name_of : Kind → Texts ℕ
 name_of kind = (row kind).name

@@ -172,9 +172,9 @@ abbrev pub counts_of : Ended → Counts
 counts_of e = record { at = e.at; patterns = e.patterns }
 
 -- What a function returned is what the machine gives, unless memory ran out.
-abbrev pub Gives : {A : Type 0} → Result A TargetFault → Result A TargetFault → Type 0
-Gives (Ok x) to = to ≡ Ok x
-Gives (Err e) to = IsFaultAsRead e to
+abbrev pub GivesTree : {A : Type 0} → Result A TargetFault → Result A TargetFault → Type 0
+GivesTree (Ok x) to = to ≡ Ok x
+GivesTree (Err e) to = IsFaultAsRead e to
 
 -- No nodegroup is read here. No public contract cites it.
 abbrev pub no_group : List ℕ → Machine → Step

@@ -17,8 +17,8 @@ abbrev pub is_named : List Group → List ℕ → Bool
 is_named groups name = is_some (text_named groups name)
 
 -- Each name is an id. No public contract cites it.
-abbrev pub AreIds : List Group → Type 0
-AreIds groups = AllByRecursion IsId (map (λ group. group.0) groups)
+abbrev pub HaveIds : List Group → Type 0
+HaveIds groups = AllByRecursion IsId (map (λ group. group.0) groups)
 
 -- one of these names is this one
 abbrev pub is_among : List (List ℕ) → List ℕ → Bool

@@ -27,8 +27,8 @@ pub record State : Type 0 where
   pub patterns : ℕ
 
 -- how far, or the first fault
-abbrev pub Answer : Type 0
-Answer = Result State TargetFault
+abbrev pub ReadAnswer : Type 0
+ReadAnswer = Result State TargetFault
 
 -- where a text ends: how many words and pattern leaves were read
 pub record Counts : Type 0 where
@@ -57,7 +57,7 @@ abbrev pub ended : State → State
 ended s = record s { due = false; nest = fresh s.nest.around }
 
 -- a word where an operand is due; `group` reads a nodegroup's words
-abbrev pub operand_word : (List ℕ → State → Answer) → Token → State → Answer
+abbrev pub operand_word : (List ℕ → State → ReadAnswer) → Token → State → ReadAnswer
 operand_word group NotWord s =
     if nat_le most_open s.nest.deep then Err TooDeep else Ok (read_on (record s { nest = deeper s.nest }))
 operand_word group OpenWord s =
@@ -73,12 +73,12 @@ operand_word group CloseWord s = Err (Word s.at)
 operand_word group NoLeaf s = Err (Word s.at)
 
 -- a `)`: it closes the innermost parenthesis of this text
-abbrev pub closing : List Nest → State → Answer
+abbrev pub closing : List Nest → State → ReadAnswer
 closing [] s = Err (Word s.at)
 closing (nest ∷ nests) s = Ok (ended (read_on (record s { nest = nest; nests = nests })))
 
 -- a word where no operand is due
-abbrev pub operator_word : Token → State → Answer
+abbrev pub operator_word : Token → State → ReadAnswer
 operator_word AndWord s = Ok (read_on (record s { due = true }))
 operator_word OrWord s = Ok (read_on (record s { due = true }))
 operator_word CloseWord s = closing s.nests s
@@ -91,26 +91,26 @@ operator_word NoLetter s = Err (Word s.at)
 operator_word NoLeaf s = Err (Word s.at)
 
 -- a word: too many words come before its other faults
-abbrev pub one_word : (List ℕ → State → Answer) → Token → State → Answer
+abbrev pub one_word : (List ℕ → State → ReadAnswer) → Token → State → ReadAnswer
 one_word group word s =
     if nat_le most_words s.at then Err TooManyWords else if s.due then operand_word group word s else operator_word word s
 
 -- words from left to right
-abbrev pub all_words : (List ℕ → State → Answer) → List Token → State → Answer
+abbrev pub all_words : (List ℕ → State → ReadAnswer) → List Token → State → ReadAnswer
 all_words group [] s = Ok s
 all_words group (word ∷ words) s = one_word group word s >>= all_words group words
 
 -- where no operand is due at a text's end: each parenthesis of this text has to be closed
-abbrev pub closed : List Nest → State → Result Counts TargetFault
-closed [] s = Ok (record { at = s.at; patterns = s.patterns })
-closed (nest ∷ nests) s = Err Unclosed
+abbrev pub after_closing : List Nest → State → Result Counts TargetFault
+after_closing [] s = Ok (record { at = s.at; patterns = s.patterns })
+after_closing (nest ∷ nests) s = Err Unclosed
 
 -- the end of a text
 abbrev pub text_end : State → Result Counts TargetFault
-text_end s = if s.due then Err (Word s.at) else closed s.nests s
+text_end s = if s.due then Err (Word s.at) else after_closing s.nests s
 
 -- a whole text: first whether it has a word and isn't too long
-abbrev pub whole_text : (List ℕ → State → Answer) → List ℕ → State → Result Counts TargetFault
+abbrev pub whole_text : (List ℕ → State → ReadAnswer) → List ℕ → State → Result Counts TargetFault
 whole_text group text s =
     if nat_le (length (tokens_of text)) 0 then Err Empty
     else if nat_lt most_text_bytes (length text) then Err TooLong
@@ -122,18 +122,18 @@ begun around at patterns =
     record { due = true; nest = fresh around; nests = []; at = at; patterns = patterns }
 
 -- after a nodegroup's text: its words were read, and the operand ends
-abbrev pub resumed : State → Counts → Answer
+abbrev pub resumed : State → Counts → ReadAnswer
 resumed s inner = Ok (ended (record s { at = inner.at; patterns = inner.patterns }))
 
 -- A nodegroup's word, with its text if there is one; `names` are being expanded, and `group` reads a word in its text.
-abbrev pub found : (List (List ℕ) → List ℕ → State → Answer) → List (List ℕ) → List ℕ → State → Option (List ℕ) → Answer
-found group names name s None = Err (UnknownGroup s.at)
-found group names name s (Some text) =
+abbrev pub group_answer : (List (List ℕ) → List ℕ → State → ReadAnswer) → List (List ℕ) → List ℕ → State → Option (List ℕ) → ReadAnswer
+group_answer group names name s None = Err (UnknownGroup s.at)
+group_answer group names name s (Some text) =
     if is_among names name then Err (Circle s.at)
     else whole_text (group (name ∷ names)) text (begun s.nest.deep (s.at + 1) s.patterns) >>= resumed s
 
 -- The words of a nodegroup's text are read where its word stands.
 -- Each text within a text follows a word, so no more than `most_texts` lie in one another.
-unfoldable pub group_word : ℕ → List Group → List (List ℕ) → List ℕ → State → Answer
+unfoldable pub group_word : ℕ → List Group → List (List ℕ) → List ℕ → State → ReadAnswer
 group_word zero groups names name s = Err TooManyWords
-group_word (suc depth) groups names name s = found (group_word depth groups) names name s (text_named groups name)
+group_word (suc depth) groups names name s = group_answer (group_word depth groups) names name s (text_named groups name)

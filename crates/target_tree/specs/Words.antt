@@ -29,12 +29,12 @@ abbrev pub is_id : List ℕ → Bool
 is_id bytes = nat_le 1 (length bytes) && nat_le (length bytes) 64 && list_all is_id_byte bytes
 
 -- the items of a list, between commas
-unfoldable pub items_of : List ℕ → List (List ℕ)
-items_of text = map trimmed (slice_split (λ b. b == 44) text)
+unfoldable pub list_items : List ℕ → List (List ℕ)
+list_items text = map trimmed (slice_split (λ b. b == 44) text)
 
 -- a list of ids, and no leaf where an item is no id
 unfoldable pub id_list : List ℕ → Token
-id_list text = if list_all is_id (items_of text) then Leaf (IdList (items_of text)) else NoLeaf
+id_list text = if list_all is_id (list_items text) then Leaf (IdList (list_items text)) else NoLeaf
 
 -- the leaf of a letter, by the text after its @
 unfoldable pub lettered : ℕ → List ℕ → Token
@@ -56,8 +56,8 @@ lettered letter text =
     else NoLetter
 
 -- one of the letters G, E, P, L, I, J and N
-abbrev pub is_letter : ℕ → Bool
-is_letter letter =
+abbrev pub is_kind_letter : ℕ → Bool
+is_kind_letter letter =
     letter == 71 || letter == 69 || letter == 80 || letter == 76 || letter == 73 || letter == 74 || letter == 78
 
 -- an ASCII capital and an @ stand in front
@@ -72,7 +72,7 @@ is_paren b = b == 40 || b == 41
 unfoldable pub operand_token : List ℕ → Token
 operand_token word =
     if is_lettered word then
-    (if is_not_empty (drop 2 word) || not (is_letter (slice_index word 0)) then lettered (slice_index word 0) (drop 2 word) else NoLeaf)
+    (if is_not_empty (drop 2 word) || not (is_kind_letter (slice_index word 0)) then lettered (slice_index word 0) (drop 2 word) else NoLeaf)
     else if list_any is_paren word then NoLeaf
     else Leaf (IdGlob word)
 

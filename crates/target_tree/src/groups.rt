@@ -1,6 +1,6 @@
 //! Nodegroups.
 ghost use Rattle.std.specs.Prelude.{◌≡◌, [], ◌∷◌, ◌++◌, ◌↔◌, IsTrue, MatchOption, None, Some, Err, IfErr, OnOk, OnErr};
-ghost use Rattle.target_tree.specs.Nodegroups.{text_named, is_named, AreIds};
+ghost use Rattle.target_tree.specs.Nodegroups.{text_named, is_named, HaveIds};
 ghost use Rattle.salt_value.specs.Id.{IsId};
 
 use indexmap::IndexMap;
@@ -28,13 +28,13 @@ pub struct Groups {
 
 impl Model for Groups {
     ghost use Rattle.std.specs.Prelude.{List};
-    ghost use Rattle.target_tree.specs.Nodegroups.{Group, AreIds};
+    ghost use Rattle.target_tree.specs.Nodegroups.{Group, HaveIds};
 
     ghost Value = { List Group };
 
     ghost view = { λ g. g.texts.entries };
 
-    ghost invariant = { λ g. AreIds g.texts.entries };
+    ghost invariant = { λ g. HaveIds g.texts.entries };
 }
 
 // A name that isn't there, and its text, after the others.
@@ -45,10 +45,10 @@ fn put_last(
 ) -> Result<(), GroupFault>
     requires absent { text_named texts.old.entries name ≡ None }
     requires id { IsId name }
-    requires ids { AreIds texts.old.entries }
+    requires ids { HaveIds texts.old.entries }
     ensures ok { OnOk result (texts.new.entries ≡ texts.old.entries ++ (name, text) ∷ []) }
     ensures err { OnErr result (texts.new.entries ≡ texts.old.entries) }
-    ensures ids { AreIds texts.new.entries }
+    ensures ids { HaveIds texts.new.entries }
     ensures memory { IfErr result (λ fault. fault ≡ GroupFault.NoMemory) }
 {
     match texts.insert(name, text) {

@@ -1,6 +1,6 @@
 //! Kinds of targets, with their codes and names.
 ghost use Rattle.std.specs.Prelude.{◌≡◌, bytes_eq};
-ghost use Rattle.target_tree.specs.Kinds.{TheKind, code_of, name_of};
+ghost use Rattle.target_tree.specs.Kinds.{TheKind, kind_code, name_of};
 
 /// How the text of a target is read. The codes and names are this project's own.
 #[derive(Clone, Copy, Debug, PartialEq, Eq)]
@@ -41,7 +41,7 @@ const KINDS: [Kind; 9] = [
 impl Kind {
     // The row of the table: the code and the name.
     fn row(self) -> (u8, &'static str)
-        ensures code { result.0 ≡ code_of self }
+        ensures code { result.0 ≡ kind_code self }
         ensures name { result.1.now ≡ name_of self }
     {
         match self {
@@ -84,14 +84,14 @@ impl Kind {
 
     /// The code in bytes, 1 to 9.
     pub fn code(self) -> u8
-        ensures { result ≡ code_of self }
+        ensures { result ≡ kind_code self }
     {
         self.row().0
     }
 
     /// The kind that has this code, if there is one.
     pub fn of(code: u8) -> Option<Kind>
-        ensures { TheKind (λ kind. code_of kind ≡ code) result }
+        ensures { TheKind (λ kind. kind_code kind ≡ code) result }
     {
         for kind in KINDS {
             if kind.code() == code {

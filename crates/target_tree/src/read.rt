@@ -4,7 +4,7 @@ ghost use Rattle.target_tree.specs.declared.target.Target.{Target as Tree};
 ghost use Rattle.target_tree.specs.declared.kind.Kind.{Kind as AnyKind};
 ghost use Rattle.target_tree.specs.Nodegroups.{Group};
 ghost use Rattle.std.specs.Prelude.{ℕ, List};
-ghost use Rattle.target_tree.specs.Machine.{Gives, machine_tree};
+ghost use Rattle.target_tree.specs.Machine.{GivesTree, machine_tree};
 ghost use Rattle.target_tree.specs.Targets.{IsTarget, IsReadUnlessLimit, IsReadUnlessRefused, IsAsRead, reading, sole_word};
 
 use crate::items::id_list_of;
@@ -44,7 +44,7 @@ fn read_compound<'a>(
     text: &'a str,
     groups: &'a Groups,
 ) -> Result<Target, TargetFault>
-    ensures { Gives result (machine_tree Kind.Compound groups.entry.now text.entry.now) }
+    ensures { GivesTree result (machine_tree Kind.Compound groups.entry.now text.entry.now) }
 {
     let rest = checked(text)?;
     run(
@@ -63,7 +63,7 @@ fn read_sole<'a>(
     groups: &'a Groups,
 ) -> Result<Target, TargetFault>
     requires { kind ≢ Kind.Compound }
-    ensures { Gives result (machine_tree kind groups.entry.now text.entry.now) }
+    ensures { GivesTree result (machine_tree kind groups.entry.now text.entry.now) }
 {
     if text.is_empty() {
         return Err(TargetFault::Empty);
@@ -84,7 +84,7 @@ fn read<'a>(
     text: &'a str,
     groups: &'a Groups,
 ) -> Result<Target, TargetFault>
-    ensures { Gives result (machine_tree kind groups.entry.now text.entry.now) }
+    ensures { GivesTree result (machine_tree kind groups.entry.now text.entry.now) }
 {
     match kind {
         Kind::Compound => read_compound(alloc, text, groups),
@@ -109,7 +109,7 @@ pub fn read_target(
     ensures complete { (tree : Tree) → IsTarget kind groups.now text.now tree → IsReadUnlessRefused result }
     ensures unique { IfOk result (λ tree. (other : Tree) → IsTarget kind groups.now text.now other → other ≡ tree) }
     // The tree, as one function of the text.
-    ensures exact { Gives result (machine_tree kind groups.now text.now) }
+    ensures exact { GivesTree result (machine_tree kind groups.now text.now) }
 {
     read(alloc, kind, text, groups)
 }

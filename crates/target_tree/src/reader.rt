@@ -1,7 +1,7 @@
 //! The reading of one text, word by word: what stands before its last operand, in each parenthesis that is open.
 ghost use Rattle.std.specs.Prelude.{◌≡◌, ◌-◌, ◌<◌, Ok, IfOk};
 ghost use Rattle.target_tree.specs.Limits.{most_words};
-ghost use Rattle.target_tree.specs.Machine.{Gives, fresh, mended, joined_and, joined_or, negations, machine_begun, machine_operand, machine_operator, machine_closing, machine_word, machine_end, machine_resumed, no_group};
+ghost use Rattle.target_tree.specs.Machine.{GivesTree, fresh, mended, joined_and, joined_or, negations, machine_begun, machine_operand, machine_operator, machine_closing, machine_word, machine_end, machine_resumed, no_group};
 
 use crate::limits::{MOST_OPEN, MOST_PATTERNS, MOST_WORDS};
 use crate::stack::Stack;
@@ -151,7 +151,7 @@ impl Reader {
     /// After a word where an operand is due, and which is no nodegroup's.
     fn operand(self, alloc: Global, word: Token) -> Result<Reader, TargetFault>
         requires { self.at < most_words }
-        ensures { Gives result (machine_operand no_group word self) }
+        ensures { GivesTree result (machine_operand no_group word self) }
     {
         let at = self.at;
         match word {
@@ -166,7 +166,7 @@ impl Reader {
 
     fn deepen(self) -> Result<Reader, TargetFault>
         requires { self.at < most_words }
-        ensures { Gives result (machine_operand no_group Token.NotWord self) }
+        ensures { GivesTree result (machine_operand no_group Token.NotWord self) }
     {
         let mut reader = self;
         if reader.part.nest.deep >= MOST_OPEN {
@@ -179,7 +179,7 @@ impl Reader {
 
     fn nest(self) -> Result<Reader, TargetFault>
         requires { self.at < most_words }
-        ensures { Gives result (machine_operand no_group Token.OpenWord self) }
+        ensures { GivesTree result (machine_operand no_group Token.OpenWord self) }
     {
         let Reader {
             last,
@@ -209,7 +209,7 @@ impl Reader {
 
     fn leaf(self, alloc: Global, tree: Boxed<Target>) -> Result<Reader, TargetFault>
         requires { self.at < most_words }
-        ensures { Gives result (machine_operand no_group (Token.Leaf tree) self) }
+        ensures { GivesTree result (machine_operand no_group (Token.Leaf tree) self) }
     {
         let mut reader = self;
         reader.at += 1;
@@ -218,7 +218,7 @@ impl Reader {
 
     fn pattern(self, alloc: Global, tree: Boxed<Target>) -> Result<Reader, TargetFault>
         requires { self.at < most_words }
-        ensures { Gives result (machine_operand no_group (Token.Pattern tree) self) }
+        ensures { GivesTree result (machine_operand no_group (Token.Pattern tree) self) }
     {
         let mut reader = self;
         if reader.patterns >= MOST_PATTERNS {
@@ -237,7 +237,7 @@ impl Reader {
         word: Token,
     ) -> Result<Reader, TargetFault>
         requires { self.at < most_words }
-        ensures { Gives result (machine_operator last word self) }
+        ensures { GivesTree result (machine_operator last word self) }
     {
         let at = self.at;
         match word {
@@ -250,7 +250,7 @@ impl Reader {
 
     fn after_and(self, last: Boxed<Target>) -> Result<Reader, TargetFault>
         requires { self.at < most_words }
-        ensures { Gives result (machine_operator last Token.AndWord self) }
+        ensures { GivesTree result (machine_operator last Token.AndWord self) }
     {
         let Reader {
             last: _,
@@ -279,7 +279,7 @@ impl Reader {
 
     fn after_or(self, alloc: Global, last: Boxed<Target>) -> Result<Reader, TargetFault>
         requires { self.at < most_words }
-        ensures { Gives result (machine_operator last Token.OrWord self) }
+        ensures { GivesTree result (machine_operator last Token.OrWord self) }
     {
         let Reader {
             last: _,
@@ -309,7 +309,7 @@ impl Reader {
 
     fn close(self, alloc: Global, last: Boxed<Target>) -> Result<Reader, TargetFault>
         requires { self.at < most_words }
-        ensures { Gives result (machine_closing last self.parts self) }
+        ensures { GivesTree result (machine_closing last self.parts self) }
     {
         let Reader {
             last: _,
@@ -342,7 +342,7 @@ impl Reader {
 
     /// After a word that is no nodegroup's, or comes where no operand is due.
     pub fn word(self, alloc: Global, word: Token) -> Result<Reader, TargetFault>
-        ensures { Gives result (machine_word no_group word self) }
+        ensures { GivesTree result (machine_word no_group word self) }
     {
         let mut reader = self;
         if reader.at >= MOST_WORDS {
@@ -356,7 +356,7 @@ impl Reader {
 
     /// At the end of a text.
     pub fn end(self, alloc: Global) -> Result<Ended, TargetFault>
-        ensures { Gives result (machine_end self) }
+        ensures { GivesTree result (machine_end self) }
     {
         let Reader {
             last,
@@ -382,7 +382,7 @@ impl Reader {
 
     /// After a nodegroup's text.
     pub fn resume(self, alloc: Global, ended: Ended) -> Result<Reader, TargetFault>
-        ensures { Gives result (machine_resumed self ended) }
+        ensures { GivesTree result (machine_resumed self ended) }
     {
         let Ended { tree, at, patterns } = ended;
         let mut reader = self;

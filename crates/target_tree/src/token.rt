@@ -1,6 +1,6 @@
 //! What a word is.
 ghost use Rattle.std.specs.Prelude.{◌≡◌, false, IfOk, MatchOption};
-ghost use Rattle.target_tree.specs.Words.{token, lettered, operand_token, is_paren, is_letter, is_lettered};
+ghost use Rattle.target_tree.specs.Words.{token, lettered, operand_token, is_paren, is_kind_letter, is_lettered};
 ghost use Rattle.std.specs.List.{list_any};
 ghost use Rattle.target_tree.specs.Parted.{IsParted};
 
@@ -95,7 +95,7 @@ fn parted(word: &str) -> Option<(u8, &str)>
 }
 
 fn is_letter_of(letter: u8) -> bool
-    ensures { result ≡ is_letter letter }
+    ensures { result ≡ is_kind_letter letter }
 {
     letter == b'G'
         || letter == b'E'

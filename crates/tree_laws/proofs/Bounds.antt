@@ -15,7 +15,7 @@ use Rattle.salt_wire.specs.declared.deed.Deed.TheVariants.{Publish, Up}
 use Rattle.node_core.specs.declared.faults.Stray.{Stray}
 use Rattle.node_core.specs.declared.faults.Stray.TheVariants.{NotNeighbour, WrongWay}
 use Rattle.node_core.specs.Records.{jobs, jobs_held, log}
-use Rattle.node_core.specs.Node.{NodeState, Taken, with_record, recorded, after_pub, accepted, is_neighbour, may_take, stray_of, taken_by, taken}
+use Rattle.node_core.specs.Node.{NodeState, Taken, with_record, recorded, after_pub, accepted, is_neighbour, may_take, stray_of, unless_stray, taken}
 use Rattle.fleet_turns.specs.declared.turn.Turn.{Turn}
 use Rattle.fleet_turns.specs.declared.turn.Turn.TheVariants as kind
 use Rattle.fleet_turns.specs.Turns.{IsTurn}
@@ -32,11 +32,11 @@ recorded_same : (t : Bool) (id : List ℕ) (entry : Entry) (node : NodeState) �
 recorded_same true id entry node = jobs_push node.records (Up id entry) ∙ append-nil (jobs node.records)
 recorded_same false id entry node = refl
 
-by_stray : (o : Option Stray) (node : NodeState) (done : Taken) → jobs done.node.records ≡ jobs node.records → jobs (taken_by o node done).node.records ≡ jobs node.records
+by_stray : (o : Option Stray) (node : NodeState) (done : Taken) → jobs done.node.records ≡ jobs node.records → jobs (unless_stray o node done).node.records ≡ jobs node.records
 by_stray None node done e = e
 by_stray (Some cause) node done e = refl
 
-job_stray : (a b : Bool) (node : NodeState) (done : Taken) → jobs (taken_by (first_cause ((a, NotNeighbour) ∷ (false && b, WrongWay) ∷ [])) node done).node.records ≡ jobs node.records
+job_stray : (a b : Bool) (node : NodeState) (done : Taken) → jobs (unless_stray (first_cause ((a, NotNeighbour) ∷ (false && b, WrongWay) ∷ [])) node done).node.records ≡ jobs node.records
 job_stray true b node done = refl
 job_stray false b node done = refl
 

@@ -20,11 +20,11 @@ use Rattle.minion_core.proofs.Own.{done_is}
 use Rattle.tree_laws.proofs.Done.{count_done}
 use Rattle.node_core.specs.Records.{jobs, jobs_held, count_in, log}
 use Rattle.node_core.specs.Counts.{raised}
-use Rattle.node_core.specs.Node.{NodeState, Answer, with_record, taken_in, after_pub, after_up, accepted, is_neighbour, may_take, is_below, is_here, is_next, may_record, names_held, stray_of, taken_by, taken}
+use Rattle.node_core.specs.Node.{NodeState, Answer, with_record, taken_in, after_pub, after_up, accepted, is_neighbour, may_take, is_below, is_here, is_next, may_record, names_held, stray_of, unless_stray, taken}
 use Rattle.fleet_config.specs.Causes.{first_cause}
 use Rattle.node_core.specs.Node.Answer.{IsStray, Silent, Reply}
 use Rattle.tree_world.specs.Packets.{Packet}
-use Rattle.tree_world.specs.Network.{Network, node_at, with_node, with_packets, packet, with_reply, received}
+use Rattle.tree_world.specs.Network.{Network, node_at, with_node_at, with_packets, packet, with_reply, received}
 use Rattle.tree_laws.specs.Lists.{IsPrefix}
 use Rattle.tree_laws.specs.Invariant.{Fits, IsSent, Names, IsMaster, IsNode, IsPair, Holds}
 use Rattle.tree_laws.proofs.Lists.{prefix_same, prefix_next, prefix_at, prefix_length, all_join, all_imply, all_at}
@@ -66,7 +66,7 @@ pub node_step : (f : Tree) (w : Network) (k : ℕ) (v : NodeState) → IsTree f 
     → IsNode f (jobs (node_at (set w.nodes k v) 0).records) k v
     → (0 < k → IsPair f (parent_of f k) k (node_at w.nodes (parent_of f k)) v)
     → ((c : ℕ) → 0 < c → c < length f → parent_of f c ≡ k → IsPair f k c v (node_at w.nodes c))
-    → Holds f (with_node w k v)
+    → Holds f (with_node_at w k v)
 node_step f w k v fleet h l grows few rising node below above =
     let in' : k < length w.nodes = let s = h.size in omega arith in
     record {
@@ -96,7 +96,7 @@ pub node_step_same : (f : Tree) (w : Network) (k : ℕ) (v : NodeState) → IsTr
     → IsNode f (jobs (node_at w.nodes 0).records) k v
     → (0 < k → IsPair f (parent_of f k) k (node_at w.nodes (parent_of f k)) v)
     → ((c : ℕ) → 0 < c → c < length f → parent_of f c ≡ k → IsPair f k c v (node_at w.nodes c))
-    → Holds f (with_node w k v)
+    → Holds f (with_node_at w k v)
 node_step_same f w k v fleet h l grows stays node below above =
     let in' : k < length w.nodes = let s = h.size in omega arith in
     let same : jobs (node_at (set w.nodes k v) 0).records ≡ jobs (node_at w.nodes 0).records = elim (cases_eq 0 k) [
@@ -114,7 +114,7 @@ FitsReply f me to node (Reply message) = Fits f me to node message
 abbrev pub Took : Tree → Network → ℕ → ℕ → Message → Type 0
 Took f w from to message =
     let t = taken f to from message (node_at w.nodes to) in
-    Holds f (with_node w to t.node) × FitsReply f to from t.node t.answer
+    Holds f (with_node_at w to t.node) × FitsReply f to from t.node t.answer
 
 pub count_taken : (f : Tree) (i seq : ℕ) (job : Job) (node : NodeState) → count_in (taken_in f i seq job node) ≡ 1
 count_taken f i seq job node = either node.minion refl where
@@ -122,7 +122,7 @@ count_taken f i seq job node = either node.minion refl where
   either true e = rw e (count_done seq (done seq job (id_of f i) node.held) (done_is seq job (id_of f i) node.held))
   either false e = rw e refl
 
-unchanged : (f : Tree) (w : Network) (k : ℕ) → Holds f w → Holds f (with_node w k (node_at w.nodes k))
+unchanged : (f : Tree) (w : Network) (k : ℕ) → Holds f w → Holds f (with_node_at w k (node_at w.nodes k))
 unchanged f w k h = rw (set-get_or w.nodes k blank) h
 
 or_true : (a : Bool) → (a || true) ≡ true
@@ -148,7 +148,7 @@ four_tests a b c d x y z u p q r s = rw (p, q, r, s) refl
 -- a message that passes its tests is taken
 by_none : (f : Tree) (me from : ℕ) (message : Message) (node : NodeState) → stray_of f me from message node ≡ None
     → taken f me from message node ≡ accepted f me from message node
-by_none f me from message node e = ap (λ (o : Option Stray). taken_by o node (accepted f me from message node)) e
+by_none f me from message node e = ap (λ (o : Option Stray). unless_stray o node (accepted f me from message node)) e
 
 pub taken_pub : (f : Tree) (me from seq : ℕ) (job : Job) (node : NodeState) → is_parent f from me ≡ true → may_take seq job node ≡ true
     → taken f me from (msg.Pub seq job) node ≡ after_pub f me seq job node
@@ -362,4 +362,4 @@ received_step f w p fleet h s =
     let t = taken f.tree p.to p.from p.message (node_at w.nodes p.to) in
     let g : Took f.tree w p.from p.to p.message = took f.tree w p.from p.to p.message fleet h s.fits in
     let in' : p.to < length w.nodes = let z = h.size in let y = s.to in omega arith in
-    reply_step f.tree (with_node w p.to t.node) p t.answer g.0 s.to s.from (rw (at_same w.nodes p.to t.node in') g.1)
+    reply_step f.tree (with_node_at w p.to t.node) p t.answer g.0 s.to s.from (rw (at_same w.nodes p.to t.node in') g.1)

@@ -12,7 +12,7 @@ use Rattle.salt_wire.specs.declared.deed.Deed.TheVariants.{Publish, Up}
 use Rattle.salt_wire.specs.declared.message.Message.{Message}
 use Rattle.salt_wire.specs.declared.message.Message.TheVariants as msg
 use Rattle.node_core.specs.Records.{jobs_held, log}
-use Rattle.node_core.specs.Node.{NodeState, Taken, with_record, recorded, taken_in, accepted, stray_of, taken_by, taken}
+use Rattle.node_core.specs.Node.{NodeState, Taken, with_record, recorded, taken_in, accepted, stray_of, unless_stray, taken}
 use Rattle.salt_wire.specs.declared.message.Job.{Job}
 use Rattle.fleet_turns.specs.declared.turn.Turn.{Turn}
 use Rattle.fleet_turns.specs.declared.turn.Turn.TheVariants as kind
@@ -35,7 +35,7 @@ accepted_grows f me from (msg.Up id n entry) node = recorded_grows (n == length 
 accepted_grows f me from (msg.UpHave id n) node = prefix_same node.records
 accepted_grows f me from other node = prefix_same node.records
 
-taken_by_grows : (o : Option Stray) (node : NodeState) (done : Taken) → IsPrefix node.records done.node.records → IsPrefix node.records (taken_by o node done).node.records
+taken_by_grows : (o : Option Stray) (node : NodeState) (done : Taken) → IsPrefix node.records done.node.records → IsPrefix node.records (unless_stray o node done).node.records
 taken_by_grows None node done p = p
 taken_by_grows (Some cause) node done p = prefix_same node.records
 

@@ -24,7 +24,7 @@ use Rattle.std.specs.Option.{ok_or}
 use Rattle.std.specs.Prelude.{min}
 use Rattle.fleet_turns.specs.declared.turn.Turn.{Turn}
 use Rattle.fleet_turns.specs.declared.turn.Turn.TheVariants as kind
-use Rattle.tree_world.specs.Network.{Network, ping_of, node_at, start, top_jobs, with_node, with_packets, published, packet, sent, received, delivered, after, after_all, most_sent}
+use Rattle.tree_world.specs.Network.{Network, ping_of, node_at, start, top_jobs, with_node_at, with_packets, published, packet, sent, received, delivered, after, after_all, most_sent}
 use Rattle.fleet_turns.specs.Turns.{IsTurn}
 use Rattle.tree_laws.specs.Invariant.{Fits, IsSent, Names, IsNode, IsPair, Holds}
 use Rattle.tree_laws.proofs.Lists.{prefix_same, all_join, all_imply, all_at, all_map, all_take, at_drop}
@@ -65,7 +65,7 @@ master_add f a job z h = record {
 }
 
 add_step : (f : Tree) (w : Network) (job : Job) → IsTree f → Holds f w → length (top_jobs w) < most_jobs → is_later (top_jobs w) job ≡ true
-    → Holds f (with_node w 0 (with_record (Publish job) (node_at w.nodes 0)))
+    → Holds f (with_node_at w 0 (with_record (Publish job) (node_at w.nodes 0)))
 add_step f w job fleet h few late =
     let a : NodeState = node_at w.nodes 0 in
     let b : NodeState = with_record (Publish job) a in
@@ -92,7 +92,7 @@ next_later (Some last) moment jid e =
 
 -- whatever holds of the network as it was, and as it is with the record, holds after a publication
 pub published_either : (P : Network → Type 0) (w : Network) (max_jobs moment : ℕ) (tgt : List ℕ) → P w
-    → ((jid : ℕ) → length (top_jobs w) < max_jobs → is_after (last_jid (top_jobs w)) jid ≡ true → P (with_node w 0 (with_record (Publish (ping_of jid tgt)) (node_at w.nodes 0))))
+    → ((jid : ℕ) → length (top_jobs w) < max_jobs → is_after (last_jid (top_jobs w)) jid ≡ true → P (with_node_at w 0 (with_record (Publish (ping_of jid tgt)) (node_at w.nodes 0))))
     → P (published tgt (publication max_jobs moment (top_jobs w)) w)
 published_either P w max_jobs moment tgt old more = elim (leb_tells max_jobs (length (top_jobs w))) [
   | inl y ↦ rw y.0 old

@@ -42,8 +42,8 @@ abbrev pub top_jobs : Network → List Job
 top_jobs w = jobs (node_at w.nodes 0).records
 
 -- the network with another node at a place
-abbrev pub with_node : Network → ℕ → NodeState → Network
-with_node w i node = record w { nodes = slice_set w.nodes i node }
+abbrev pub with_node_at : Network → ℕ → NodeState → Network
+with_node_at w i node = record w { nodes = slice_set w.nodes i node }
 
 -- the network with these packets after those that are there
 abbrev pub with_packets : Network → List Packet → Network
@@ -56,7 +56,7 @@ ping_of jid tgt = job_of jid tgt (codes "test.ping") []
 -- a publication adds one record at the top, or nothing where it is refused
 abbrev pub published : List ℕ → Result ℕ PublishFault → Network → Network
 published tgt (Err cause) w = w
-published tgt (Ok jid) w = with_node w 0 (with_record (r.Publish (ping_of jid tgt)) (node_at w.nodes 0))
+published tgt (Ok jid) w = with_node_at w 0 (with_record (r.Publish (ping_of jid tgt)) (node_at w.nodes 0))
 
 -- a message on its way between two places
 abbrev pub packet : ℕ → ℕ → Message → Packet

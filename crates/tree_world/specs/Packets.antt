@@ -23,7 +23,7 @@ abbrev pub message_in : List ℕ → Message
 message_in bytes = message_of (decoded bytes)
 
 -- the bytes are the body of a message that is within the limits, and are read as that message
-pub record IsBody (bytes : List ℕ) : Type 0 where
+pub record IsPacketBody (bytes : List ℕ) : Type 0 where
   pub decoded : decoded bytes ≡ Ok (message_in bytes)
   pub within : Within (message_in bytes)
   pub spelled : bytes ≡ body (message_in bytes)

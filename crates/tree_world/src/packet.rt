@@ -18,7 +18,7 @@ pub struct Packet {
 }
 
 impl Model for Packet {
-    ghost use Rattle.tree_world.specs.Packets.{Packet, message_in, IsBody};
+    ghost use Rattle.tree_world.specs.Packets.{Packet, message_in, IsPacketBody};
 
     ghost Value = { Packet };
 
@@ -32,7 +32,7 @@ impl Model for Packet {
 
     ghost use Rattle.node_core.specs.Node.{IsCounted};
 
-    ghost invariant = { λ p. IsBody p.body.items × IsCounted (message_in p.body.items) };
+    ghost invariant = { λ p. IsPacketBody p.body.items × IsCounted (message_in p.body.items) };
 }
 
 impl Packet {
@@ -89,7 +89,7 @@ impl Packet {
 // The body of a message, which is read as that message.
 fn body_of(alloc: Global, message: &Message) -> Result<Vec<u8>, AllocError>
     requires { Within message.now }
-    ensures body { IfOk result (λ body. packets.IsBody body.items) }
+    ensures body { IfOk result (λ body. packets.IsPacketBody body.items) }
     ensures message { IfOk result (λ body. packets.message_in body.items ≡ message.now) }
 {
     messages_read_back();
@@ -100,7 +100,7 @@ fn body_of(alloc: Global, message: &Message) -> Result<Vec<u8>, AllocError>
 
 // The message of a body. Only memory can be wanted.
 fn message_of(alloc: Global, body: &[u8]) -> Result<Message, AllocError>
-    requires { packets.IsBody body.now }
+    requires { packets.IsPacketBody body.now }
     ensures { IfOk result (λ message. message ≡ packets.message_in body.now) }
 {
     match decode(alloc, body) {

@@ -16,9 +16,9 @@ use Rattle.salt_value.specs.WellFormed.{ValueFits, depth, greatest, well_formed,
 use Rattle.salt_value.specs.Keys.{keys_of, ascends}
 use Rattle.salt_value.proofs.ReadBack.{depth-List, depth-Map, well_formed-List, well_formed-Map}
 use Rattle.salt_value.proofs.WriteLemmas.{both_true, pairs_told}
-use Rattle.value_json.specs.Texts.{data_of, data_layer, data_pairs, members_from, json_text, value_of, values_of, pairs_of}
+use Rattle.value_json.specs.Texts.{data_of, data_layer, data_pairs, members_from, json_text, value_of, values_of, member_pairs}
 use Rattle.value_json.specs.Causes.{is_wide, has_wide, items_have_wide, members_have_wide}
-use Rattle.value_json.specs.Whole.{json_value, answer_of, value_or_fault, value_or_limit, IsWritten}
+use Rattle.value_json.specs.Whole.{json_value, value_or_cause, value_or_fault, value_or_limit, IsWrittenBack}
 use Rattle.salt_value.specs.FitTest.{fits}
 use Rattle.value_json.specs.declared.parsing.JsonFault.{JsonFault}
 use Rattle.value_json.specs.declared.parsing.JsonFault.TheVariants.{TooDeep, TooLarge}
@@ -92,7 +92,7 @@ pair_well e es h =
     let s = both_true (is_text e.0) (well_formed e.1.0 && every_pair (pairs_told (pairs_firsts es))) h in
     both_true (well_formed e.1.0) (every_pair (pairs_told (pairs_firsts es))) s.1
 
-pairs_back : (es : List Known) → every_pair (pairs_told (pairs_firsts es)) ≡ true → pairs_of (members_from (data_pairs (pairs_firsts es))) ≡ pairs_firsts es
+pairs_back : (es : List Known) → every_pair (pairs_told (pairs_firsts es)) ≡ true → member_pairs (members_from (data_pairs (pairs_firsts es))) ≡ pairs_firsts es
 pairs_back [] h = refl
 pairs_back (e ∷ es) h =
     let s = pair_well e es h in
@@ -177,7 +177,7 @@ data_levels w h = let l = (is_back w).levels in let d = h.deep in omega arith
 pub read_back : (w : Value) (text : List ℕ) → ValueFits w → has_float (data_of w) ≡ false → read text ≡ Some (data_of w) → json_value text ≡ Ok w
 read_back w text h whole e =
     let b = is_back w in
-    ap answer_of e ∙ rw (whole, b.narrow h.well_formed, b.back h.well_formed, le-leb _ _ h.deep, le-leb _ _ h.long, h.well_formed) refl
+    ap value_or_cause e ∙ rw (whole, b.narrow h.well_formed, b.back h.well_formed, le-leb _ _ h.deep, le-leb _ _ h.long, h.well_formed) refl
 
 -- ---- data is written back
 
@@ -198,7 +198,7 @@ mutual
   written (number n) f w = ap compact_text (data-Int (unwrap_or (as_i64 n) (pos 0))) ∙ number_written n f w
   written (string s) f w = ap compact_text (data-Str s)
   written (array ds) f w = ap compact_text (data-List (values_of ds)) ∙ ap (λ t. 91 ∷ t) (items_written false ds f w)
-  written (object ms) f w = ap compact_text (data-Map (pairs_of ms)) ∙ ap (λ t. 123 ∷ t) (members_written false ms f w)
+  written (object ms) f w = ap compact_text (data-Map (member_pairs ms)) ∙ ap (λ t. 123 ∷ t) (members_written false ms f w)
 
   items_written : (later : Bool) (ds : Items) → items_have_float ds ≡ false → items_have_wide ds ≡ false → items_text later (items_of (map data_of (values_of ds))) ≡ items_text later ds
   items_written later no_items f w = refl
@@ -207,7 +207,7 @@ mutual
       let b = either_false (has_wide d) (items_have_wide ds) w in
       rw (written d a.0 b.0, items_written true ds a.1 b.1) refl
 
-  members_written : (later : Bool) (ms : Members) → members_have_float ms ≡ false → members_have_wide ms ≡ false → members_text later (members_from (data_pairs (pairs_of ms))) ≡ members_text later ms
+  members_written : (later : Bool) (ms : Members) → members_have_float ms ≡ false → members_have_wide ms ≡ false → members_text later (members_from (data_pairs (member_pairs ms))) ≡ members_text later ms
   members_written later no_members f w = refl
   members_written later (member k d ms) f w =
       let a = either_false (has_float d) (members_have_float ms) f in
@@ -231,13 +231,13 @@ by_data d x false false e f h =
     let same : value_of d ≡ x = within (value_of d) x (let g = rw (e, f) at h in g) in
     ap json_text (sym same) ∙ written d e f
 
-by_read : (text : List ℕ) (x : Value) (o : Option Data) → read text ≡ o → answer_of o ≡ Ok x → IsWritten text x
+by_read : (text : List ℕ) (x : Value) (o : Option Data) → read text ≡ o → value_or_cause o ≡ Ok x → IsWrittenBack text x
 by_read text x None e h = absurd cc
 by_read text x (Some d) e h = (d, e, by_data d x (has_float d) (has_wide d) refl refl h)
 
-pub is_written : (text : List ℕ) (x : Value) → json_value text ≡ Ok x → IsWritten text x
+pub is_written : (text : List ℕ) (x : Value) → json_value text ≡ Ok x → IsWrittenBack text x
 is_written text x h = by_read text x (read text) refl h
 
-pub all_written : (text : List ℕ) (r : Result Value JsonFault) → IfOk r (λ x. json_value text ≡ Ok x) → IfOk r (IsWritten text)
+pub all_written : (text : List ℕ) (r : Result Value JsonFault) → IfOk r (λ x. json_value text ≡ Ok x) → IfOk r (IsWrittenBack text)
 all_written text (Ok x) h = is_written text x h
 all_written text (Err e) h = tt

@@ -1,5 +1,5 @@
 use Rattle.std.proofs.Common.{◌≡◌, ◌<◌, length, arith, Bool, true, false, sym, ap, ◌∙◌}
-use Rattle.salt_glob.specs.Globs.{piece_at, is_star, taken_by}
+use Rattle.salt_glob.specs.Globs.{piece_at, is_star, bytes_taken}
 use Rattle.salt_glob.proofs.Pieces.{not_star_at}
 use Rattle.salt_glob.proofs.Leads.{lead_one, lead_star, lead_none, lead_end, taken_more}
 use Rattle.salt_glob.proofs.matching.holds.Goals as goal
@@ -14,14 +14,14 @@ returns-then-is_star c =
 
 pub loop-p-smaller : goal.loop-p-smaller
 loop-p-smaller c =
-    let some = taken_more c.args.pattern.now c.loop-p.p _ c.in-Some.n (ap (taken_by (piece_at c.args.pattern.now c.loop-p.p)) (sym c.at.ensures.value) ∙ sym c.taken.ensures.value ∙ c.in-Some.is) in
+    let some = taken_more c.args.pattern.now c.loop-p.p _ c.in-Some.n (ap (bytes_taken (piece_at c.args.pattern.now c.loop-p.p)) (sym c.at.ensures.value) ∙ sym c.taken.ensures.value ∙ c.in-Some.is) in
     omega arith
 
 pub loop-p-preserved : goal.loop-p-preserved
 loop-p-preserved c =
     let low-p : c.loop-p.p < length c.args.pattern.now = omega arith in
     let low : c.loop-p.t < length c.args.text.now = omega (arith, c.loop-p.invariant.within) in
-    lead_one c.args.pattern.now c.args.text.now c.loop-p.p c.loop-p.t c.in-Some.n low-p low (ap (taken_by (piece_at c.args.pattern.now c.loop-p.p)) (sym c.at.ensures.value) ∙ sym c.taken.ensures.value ∙ c.in-Some.is) c.in-Some.ensures.within c.loop-p.invariant
+    lead_one c.args.pattern.now c.args.text.now c.loop-p.p c.loop-p.t c.in-Some.n low-p low (ap (bytes_taken (piece_at c.args.pattern.now c.loop-p.p)) (sym c.at.ensures.value) ∙ sym c.taken.ensures.value ∙ c.in-Some.is) c.in-Some.ensures.within c.loop-p.invariant
 
 pub returns-in-None : goal.returns-in-None
 returns-in-None c =
@@ -29,7 +29,7 @@ returns-in-None c =
     let low : c.loop-p.t < length c.args.text.now = omega (arith, c.loop-p.invariant.within) in
     let single : is_star (piece_at c.args.pattern.now c.loop-p.p) ≡ false =
     not_star_at c.args.pattern.now c.loop-p.p (λ e. never c.is_star.result c.if-is_star.false (c.is_star.ensures.1 (low-p, e))) in
-    (λ e. absurd cc, λ g. absurd (lead_none c.args.pattern.now c.args.text.now c.loop-p.p c.loop-p.t low-p low single (ap (taken_by (piece_at c.args.pattern.now c.loop-p.p)) (sym c.at.ensures.value) ∙ sym c.taken.ensures.value ∙ c.in-None.is) c.loop-p.invariant g))
+    (λ e. absurd cc, λ g. absurd (lead_none c.args.pattern.now c.args.text.now c.loop-p.p c.loop-p.t low-p low single (ap (bytes_taken (piece_at c.args.pattern.now c.loop-p.p)) (sym c.at.ensures.value) ∙ sym c.taken.ensures.value ∙ c.in-None.is) c.loop-p.invariant g))
 
 pub returns : goal.returns
 returns c =

@@ -1,5 +1,5 @@
 use Rattle.target_tree.specs.Words.{tokens_of}
-use Rattle.target_tree.specs.Going.{GoesOn}
+use Rattle.target_tree.specs.Going.{ReadsOn}
 use Rattle.target_tree.specs.declared.token.Token.TheVariants.{Nodegroup}
 use Rattle.std.proofs.Common.{◌∷◌}
 use Rattle.target_tree.proofs.Steps.{goes-open, shut-goes, handed}
@@ -13,5 +13,5 @@ returns c =
 pub returns-in_err-text : goal.returns-in_err-text
 returns-in_err-text c =
     handed c.from_residual.result c.in_err-text.field-0.0
-    (GoesOn c.args.groups.now c.args.outers.now c.args.outers.now c.args.outer.reader (Nodegroup c.args.outer.name ∷ tokens_of c.args.outer.rest.now)) c.from_residual.ensures.1
+    (ReadsOn c.args.groups.now c.args.outers.now c.args.outers.now c.args.outer.reader (Nodegroup c.args.outer.name ∷ tokens_of c.args.outer.rest.now)) c.from_residual.ensures.1
     (shut-goes c.args.groups.now c.args.outers.now c.args.outer.name (tokens_of c.args.outer.rest.now) c.args.outer.reader c.in_err-text.field-0.0 c.requires.0 c.requires.1 c.in_err-text.ensures)

@@ -1,6 +1,6 @@
 use Rattle.std.proofs.Common.{◌≡◌, Ok, ◌+◌, ◌-◌, ◌≤◌, ◌∷◌, length, rules, ap, ◌∙◌, sym, arith}
 use Rattle.target_tree.specs.Words.{tokens_of}
-use Rattle.target_tree.specs.Machine.{Gives}
+use Rattle.target_tree.specs.Machine.{GivesTree}
 use Rattle.target_tree.specs.Going.{Goes, going}
 use Rattle.target_tree.proofs.Cuts.{tokens-more, tokens-none}
 use Rattle.target_tree.proofs.Steps.{run-word, run-word-fails, run-last, run-end, run-end-fails, resumed-at, ended-at, handed}
@@ -27,7 +27,7 @@ returns-in_err-next-in-Some c =
     let words : tokens_of c.loop-word.rest.now ≡ c.in_ok-word-in-Some.word ∷ tokens_of c.in-Some.more.now =
     tokens-more c.loop-word.rest.now c.in-Some.word.now c.in-Some.more.now c.in-Some.ensures ∙ ap (λ t. t ∷ tokens_of c.in-Some.more.now) (sym c.in_ok-word-in-Some.ensures) in
     let whole = going (257 - length c.args.outers) c.args.groups.now c.args.outers (tokens_of c.args.rest.now) c.args.reader in
-    handed c.from_residual-in_err-next-in-Some.result c.in_err-next-in-Some.field-0.0 (λ r. Gives r whole) c.from_residual-in_err-next-in-Some.ensures.1
+    handed c.from_residual-in_err-next-in-Some.result c.in_err-next-in-Some.field-0.0 (λ r. GivesTree r whole) c.from_residual-in_err-next-in-Some.ensures.1
     (run-word-fails c.args.groups.now c.loop-word.outers c.loop-word.reader c.loop-word.rest.now c.in-Some.more.now c.in_ok-word-in-Some.word whole c.in_err-next-in-Some.field-0.0 words i.3 c.in_err-next-in-Some.ensures)
 
 pub returns-in_default : goal.returns-in_default
@@ -56,5 +56,5 @@ pub returns-in_err-ended-in-None : goal.returns-in_err-ended-in-None
 returns-in_err-ended-in-None c =
     let i = c.loop-word.invariant in
     let whole = going (257 - length c.args.outers) c.args.groups.now c.args.outers (tokens_of c.args.rest.now) c.args.reader in
-    handed c.from_residual-in_err-ended-in-None.result c.in_err-ended-in-None.field-0.0 (λ r. Gives r whole) c.from_residual-in_err-ended-in-None.ensures.1
+    handed c.from_residual-in_err-ended-in-None.result c.in_err-ended-in-None.field-0.0 (λ r. GivesTree r whole) c.from_residual-in_err-ended-in-None.ensures.1
     (run-end-fails c.args.groups.now c.loop-word.outers c.loop-word.reader c.loop-word.rest.now whole c.in_err-ended-in-None.field-0.0 (tokens-none c.loop-word.rest.now c.in-None.ensures) i.3 c.in_err-ended-in-None.ensures)
