@@ -25,7 +25,7 @@ use Rattle.salt_wire.proofs.WriteLemmas.{both_true}
 -- ---- rooms
 
 abbrev pub made : ℕ → ℕ → ℕ → Room
-made n p s = record { nodes = n; pattern_count = p; stop = s }
+made n p s = record { nodes = n; patterns = p; stop = s }
 
 same_room : (n m p q s : ℕ) → n ≡ m → p ≡ q → made n p s ≡ made m q s
 same_room n m p q s e f = ap₂ (λ (a b : ℕ). made a b s) e f
