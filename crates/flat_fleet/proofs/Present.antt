@@ -18,11 +18,11 @@ use Rattle.salt_value.specs.declared.outcome.Row.{Row}
 use Rattle.salt_wire.specs.declared.message.Entry.TheVariants.{Return}
 use Rattle.salt_wire.specs.declared.deed.Deed.{Deed}
 use Rattle.salt_wire.specs.declared.deed.Deed.TheVariants.{Done}
-use Rattle.minion_core.specs.Flat.{does_hold, entry_of, done_by, done, held_after, held_by, entries_in, flat_records, flat_up, flat_held, return_of}
+use Rattle.minion_core.specs.Flat.{row_of, does_hold, entry_of, done_by, done, held_after, held_by, entries_in, flat_records, flat_up, flat_held, return_of}
 use Rattle.minion_core.proofs.Changes.{changed_is}
 use Rattle.minion_core.proofs.FlatSteps.{step_from, flat_push}
 use Rattle.flat_fleet.specs.declared.report.FlatMinion.{FlatMinion}
-use Rattle.flat_fleet.specs.Reports.{row_of, job_rows, reports_to, outcome_of, minion_after, rows_after}
+use Rattle.flat_fleet.specs.Reports.{job_rows, reports_to, outcome_of, minion_after, rows_after}
 
 -- ---- one step
 

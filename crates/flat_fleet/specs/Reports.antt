@@ -4,13 +4,9 @@ use Rattle.salt_value.specs.declared.outcome.Outcome.{Outcome}
 use Rattle.exec_functions.specs.Exec.{run, with_change}
 use Rattle.salt_wire.specs.declared.message.Job.{Job}
 use Rattle.salt_value.specs.declared.outcome.Row.{Row}
-use Rattle.minion_core.specs.Flat.{does_hold, flat_up, return_of}
+use Rattle.minion_core.specs.Flat.{row_of, does_hold, flat_up, return_of}
 use Rattle.flat_fleet.specs.declared.report.FlatMinion.{FlatMinion}
 use Rattle.flat_fleet.specs.declared.report.FlatReport.{FlatReport}
-
--- the row of a minion, if it returned
-abbrev pub row_of : List ℕ → Option Outcome → Option Row
-row_of id outcome = option_map (λ o. record { id = id; outcome = o }) outcome
 
 -- the rows of job number k: of each minion its return in the flat minion's entries, if there is one
 abbrev pub job_rows : ℕ → List FlatMinion → List Job → List Row

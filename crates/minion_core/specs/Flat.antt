@@ -4,6 +4,7 @@ use Rattle.std.specs.List.{list_all}
 use Rattle.target_tree.specs.declared.target.Target.{Target}
 use Rattle.target_match.specs.Holds.{holds, patterns}
 use Rattle.salt_value.specs.declared.outcome.Outcome.{Outcome}
+use Rattle.salt_value.specs.declared.outcome.Row.{Row}
 use Rattle.exec_functions.specs.declared.holdings.Holdings.{Holdings}
 use Rattle.exec_functions.specs.declared.holdings.Change.{Change}
 use Rattle.exec_functions.specs.declared.holdings.Change.TheVariants as c
@@ -145,3 +146,7 @@ is_first (Return seq outcome) log = is_none (return_of seq log)
 is_first (Fired event) log = true
 is_first (Start boot) log = true
 is_first (Mine seq mine grains pillar) log = true
+
+-- the row of a minion, if it returned
+abbrev pub row_of : List ℕ → Option Outcome → Option Row
+row_of id outcome = option_map (λ o. record { id = id; outcome = o }) outcome

@@ -8,7 +8,7 @@ use Rattle.salt_value.specs.declared.outcome.Outcome.{Outcome}
 use Rattle.salt_wire.specs.declared.deed.Deed.{Deed}
 use Rattle.node_core.specs.declared.faults.Stray.{Stray}
 use Rattle.fleet_config.specs.Tree.{Tree, id_of, parent_of, is_minion, is_within, IsTree, minions}
-use Rattle.minion_core.specs.Flat.{done, held_after, held_by, entries_in, flat_records, flat_up, acts, return_of}
+use Rattle.minion_core.specs.Flat.{row_of, done, held_after, held_by, entries_in, flat_records, flat_up, acts, return_of}
 use Rattle.node_core.specs.Records.{jobs_held, log, log_after}
 use Rattle.std.specs.Prelude.{flat_map}
 use Rattle.exec_functions.specs.declared.holdings.Holdings.{Holdings}
@@ -20,7 +20,7 @@ use Rattle.node_core.specs.Node.Answer.{IsStray}
 use Rattle.tree_world.specs.Packets.{Packet}
 use Rattle.tree_world.specs.Network.{Network, node_at, top_jobs}
 use Rattle.tree_laws.specs.Laws.{IsPrefixOfParent, ActedOnce, AreJobsInOrder, NamesHeldJobs, IsTaken, outcome_at, flat_outcome, IsOutcomeFlat, IsReportFlat, IsReportSoFar, has_returned}
-use Rattle.tree_world.specs.Report.{row_of, report, flat_report, by_id}
+use Rattle.tree_world.specs.Report.{report, flat_report, by_id}
 use Rattle.salt_value.specs.declared.outcome.Row.{Row}
 use Rattle.std.specs.List.{All, Contains, filter_map, cons_option}
 use Rattle.std.proofs.lemmas.List.Elements.{All-weaker, All-same, All-filter, All-contains_itself, recursion_from_All, All-from_recursion}

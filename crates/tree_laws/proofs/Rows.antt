@@ -15,9 +15,9 @@ use Rattle.fleet_config.specs.Tree.{Tree, up_to, id_of, place_of, is_minion, is_
 use Rattle.salt_wire.specs.declared.message.Job.{Job}
 use Rattle.salt_value.specs.declared.outcome.Outcome.{Outcome}
 use Rattle.salt_value.specs.declared.outcome.Row.{Row}
-use Rattle.minion_core.specs.Flat.{flat_up, return_of}
+use Rattle.minion_core.specs.Flat.{row_of, flat_up, return_of}
 use Rattle.node_core.specs.Node.{held_of}
-use Rattle.tree_world.specs.Report.{is_before, by_id, row_of, rows, flat_report}
+use Rattle.tree_world.specs.Report.{is_before, by_id, rows, flat_report}
 use Rattle.tree_laws.specs.Laws.{flat_outcome, IsFlatRow, HasFlatRows, AscendById}
 use Rattle.tree_world.proofs.Orders.{is_order}
 use Rattle.tree_laws.proofs.Ascends.{Pairs, flat_all, map_all, map_has, filter_has, up_to_has, up_to_rises, pairs_filter, ordered_ascends, ordered_has}

@@ -2,7 +2,8 @@ use Rattle.std.proofs.Common.{◌≡◌, ◌<◌, ◌++◌, [], length, get_or, 
 use Rattle.std.specs.Prelude.{slice_set}
 use Rattle.std.specs.List.{cons_option}
 use Rattle.flat_fleet.specs.declared.report.FlatMinion.{FlatMinion}
-use Rattle.flat_fleet.specs.Reports.{minion_after, outcome_of, row_of}
+use Rattle.minion_core.specs.Flat.{row_of}
+use Rattle.flat_fleet.specs.Reports.{minion_after, outcome_of}
 use Rattle.flat_fleet.proofs.Present.{half_at, half_set, rows_more}
 use Rattle.flat_fleet.proofs.reports.one_job.Goals as goal
 
