@@ -49,9 +49,10 @@ entries_fit seq held (n ∷ notes) l h f = All-cons EntryFits (entry_of seq held
 pub done_fits : (seq : ℕ) (held : Holdings) (ran : Ran) → seq < 2 ^ 32 → AreWithin held → IsSendable ran → DeedFits (done_by seq held ran)
 done_fits seq held ran l h s =
     let after = within_after ran.change held h s.change in
-    let last : EntryFits (Return seq ran.outcome) = (l, s.retcode, s.value) in
-    (changed_fits ran.change held h s.change,
-     All-append EntryFits _ _ (entries_fit seq (with_change ran.change held) ran.notes l after s.notes) (All-cons EntryFits (Return seq ran.outcome) [] last (All-nil EntryFits)))
+    let last : EntryFits (Return seq ran.outcome) = (l, s.retcode, s.value) in (
+      changed_fits ran.change held h s.change,
+      All-append EntryFits _ _ (entries_fit seq (with_change ran.change held) ran.notes l after s.notes) (All-cons EntryFits (Return seq ran.outcome) [] last (All-nil EntryFits)),
+    )
 
 few_entries : (seq : ℕ) (held : Holdings) (ran : Ran) → length ran.notes ≤ 1 → length (entries_by seq held ran) ≤ 2
 few_entries seq held ran h =

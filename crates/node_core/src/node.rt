@@ -4,14 +4,18 @@ ghost use Rattle.std.specs.Option.{option_copied};
 ghost use Rattle.fleet_config.specs.Limits.{most_jobs};
 ghost use Rattle.fleet_config.specs.Tree as tree;
 ghost use Rattle.node_core.specs.Logs.{IsJobRecord};
+ghost use Rattle.node_core.specs.Node.{job_of};
+ghost use Rattle.salt_wire.specs.Limits.{JobFits};
+ghost use Rattle.salt_value.specs.WellFormed.{ValueFits};
+ghost use Rattle.salt_value.specs.declared.value.Value.TheVariants as v;
 ghost use Rattle.node_core.specs.Node.Answer.{IsStray};
 ghost use Rattle.node_core.specs.declared.faults.TakeFault.TheVariants as take;
 ghost use Rattle.node_core.specs.declared.faults.PendFault.TheVariants as pend;
 ghost use Rattle.node_core.specs.declared.faults.PublishFault.TheVariants as publish;
 ghost use Rattle.salt_wire.specs.declared.message.Message.TheVariants as m;
 
-use crate::index::{push_both, push_done, push_up};
 use crate::logs::Logs;
+use crate::recording::{push_both, push_run, push_up};
 use crate::sending::{push_entries, push_pubs};
 use crate::strays::{
     first_cause, is_below, is_first, is_here, is_later, is_neighbour, last_jid, names_held,
@@ -21,7 +25,7 @@ use crate::{Counts, Glob, PendFault, PublishFault, Stray, TakeFault};
 use fleet_config::{Fleet, MOST_JOBS};
 use indexmap::IndexMap;
 use minion_core::{MinionCore, nothing_held};
-use salt_value::{Items, Jid, MinionId, NodeId, Outcome, Value, Word, copy_items};
+use salt_value::{Jid, MinionId, NodeId, Outcome, Value, Word, copy_items};
 use salt_wire::{Deed, Entry, Job, Message};
 use std::alloc::{AllocError, Global};
 use std::marker::Model;
@@ -58,20 +62,49 @@ impl Model for Node {
 
 impl Node {
     ghost use Rattle.fleet_config.specs.Tree.{member};
-    ghost use Rattle.node_core.specs.Node.{NodeState, taken, taken_in, answer_of, stray_of, accepted, after_pub, after_up, pending, pending_down, pending_up, pending_ups, publication, first_node, with_record, is_neighbour, is_next, may_take, may_record, job_of, IsCounted};
+    ghost use Rattle.node_core.specs.Node.{NodeState, taken, taken_in, answer_of, stray_of, accepted, after_pub, after_up, pending, pending_down, pending_up, pending_ups, publication, first_node, with_record, is_neighbour, is_next, may_take, may_record, IsCounted};
     ghost use Rattle.node_core.specs.Node.Answer.{Reply};
     ghost use Rattle.node_core.specs.Records.{jobs, log, jobs_held};
     ghost use Rattle.minion_core.specs.Flat.{done, return_of, nothing_held};
-    ghost use Rattle.salt_wire.specs.Limits.{Within, JobFits, EntryFits};
+    ghost use Rattle.salt_wire.specs.Limits.{Within, EntryFits};
     ghost use Rattle.salt_wire.specs.declared.deed.Deed.TheVariants.{Publish, Intake, Up, Boot};
-    ghost use Rattle.salt_value.specs.WellFormed.{ValueFits};
-    ghost use Rattle.salt_value.specs.declared.value.Value.TheVariants as v;
 
     /// A node of this fleet as it starts: a minion boots, and a master has no record.
     pub fn start(alloc: Global, fleet: &Fleet, me: NodeId) -> Result<Node, AllocError>
         ensures ok { IfOk result (λ node. node ≡ first_node (member fleet.now.tree me)) }
     {
-        Err(AllocError)
+        if fleet.is_minion(me) {
+            Node::booted(alloc)
+        } else {
+            Ok(Node {
+                alloc,
+                records: Vec::new(alloc),
+                jobs: Vec::new(alloc),
+                held: 0,
+                logs: Logs::Below(IndexMap::new(alloc)),
+                known_jobs: Counts::new(alloc),
+                known_ups: Counts::new(alloc),
+            })
+        }
+    }
+
+    // A minion that has booted once.
+    fn booted(alloc: Global) -> Result<Node, AllocError>
+        ensures { IfOk result (λ node. node ≡ record { minion = true; records = Boot ∷ []; held = nothing_held; known_jobs = []; known_ups = [] }) }
+    {
+        let mut records = Vec::new(alloc);
+        records.push(Deed::Boot)?;
+        let mut core = MinionCore::new(alloc, nothing_held(alloc));
+        core.apply(&Deed::Boot)?;
+        Ok(Node {
+            alloc,
+            records,
+            jobs: Vec::new(alloc),
+            held: 0,
+            logs: Logs::Own(core),
+            known_jobs: Counts::new(alloc),
+            known_ups: Counts::new(alloc),
+        })
     }
 
     /// What node `me` of the fleet does with a message from another node: it takes it, and answers the reply if there is one, or the
@@ -92,7 +125,10 @@ impl Node {
         ensures err { OnErr result (self.new ≡ self.old) }
         ensures stray { (cause : _) → IsErrOf result (take.Stray cause) → taken fleet.now.tree me from message.now self.old ≡ record { node = self.old; answer = IsStray cause } }
     {
-        Err(TakeFault::NoMemory)
+        if let Some(cause) = self.stray_of(fleet, me, from, message) {
+            return Err(TakeFault::Stray { cause });
+        }
+        Ok(self.accept(fleet, me, from, message)?)
     }
 
     /// What it has for a neighbour, at most `max` messages.
@@ -110,7 +146,14 @@ impl Node {
         ensures not_neighbour { IsErrOf result pend.NotNeighbour → is_neighbour fleet.now.tree me peer ≡ false }
         ensures complete { OnOk result (is_neighbour fleet.now.tree me peer ≡ true) }
     {
-        Err(PendFault::NoMemory)
+        let _ = &self.records;
+        if fleet.is_parent(me, peer) {
+            return Ok(self.pending_down(peer, max)?);
+        }
+        if fleet.is_parent(peer, me) {
+            return Ok(self.pending_up(fleet, me, max)?);
+        }
+        Err(PendFault::NotNeighbour)
     }
 
     /// Publishes a job of this function with these arguments for the minions whose ids a glob holds for, at a moment in microseconds
@@ -128,7 +171,15 @@ impl Node {
         ensures err { OnErr result (self.new ≡ self.old) }
         ensures fault { IfErr result (λ fault. fault ≢ publish.NoMemory → publication fleet.now.max_jobs moment (jobs self.old.records) ≡ Err fault) }
     {
-        Err(PublishFault::NoMemory)
+        let max = fleet.max_jobs();
+        if self.jobs.len() >= max as usize {
+            return Err(PublishFault::JobsFull { max });
+        }
+        let Ok(jid) = Jid::next(last_jid(self.jobs.as_slice()), moment) else {
+            return Err(PublishFault::JidEnd);
+        };
+        self.add_publish(jid, tgt, fun, args)?;
+        Ok(jid)
     }
 
     /// A master's jobs in order.
@@ -145,4 +196,356 @@ impl Node {
     {
         return_of(seq, self.logs.entries(id))
     }
+
+    // A record of a job that is published.
+    fn add_publish(
+        &mut self,
+        jid: Jid,
+        tgt: &Glob,
+        fun: &Word,
+        args: &[Value],
+    ) -> Result<(), AllocError>
+        requires few { length (jobs self.old.records) < most_jobs }
+        requires fits { ValueFits (v.List args.now) }
+        ensures ok { OnOk result (self.new ≡ with_record (Publish (job_of jid tgt.now fun.now args.now)) self.old) }
+        ensures err { OnErr result (self.new ≡ self.old) }
+    {
+        let job = glob_job(self.alloc, jid, tgt, fun, args)?;
+        let new = job.copy(self.alloc)?;
+        self.add_job(Deed::Publish { job: new }, &job)
+    }
+
+    // The jobs that a child is not known to hold.
+    fn pending_down(&self, child: NodeId, max: u32) -> Result<Vec<Message>, AllocError>
+        ensures { IfOk result (λ messages. messages.items ≡ take max (pending_down child self.now)) }
+    {
+        let mut messages = Vec::new(self.alloc);
+        let known = self.known_jobs.known(child);
+        push_pubs(self.alloc, &mut messages, known, self.jobs.as_slice(), max)?;
+        Ok(messages)
+    }
+
+    // The count of jobs, and the entries that the parent is not known to hold.
+    fn pending_up(&self, fleet: &Fleet, me: NodeId, max: u32) -> Result<Vec<Message>, AllocError>
+        requires { me < length fleet.now.tree }
+        ensures ok { IfOk result (λ messages. messages.items ≡ take max (pending_up fleet.now.tree me self.now)) }
+        ensures fits { IfOk result (λ messages. All Within messages.items) }
+    {
+        let mut messages = Vec::new(self.alloc);
+        if max == 0 {
+            return Ok(messages);
+        }
+        messages.push(Message::Have { jobs: self.held })?;
+        let minions = fleet.minions(self.alloc, me)?;
+        for minion in &minions {
+            self.push_ups(fleet, *minion, &mut messages, max)?;
+        }
+        Ok(messages)
+    }
+
+    // The entries of a minion that the parent is not known to hold, after what is there.
+    fn push_ups(
+        &self,
+        fleet: &Fleet,
+        minion: NodeId,
+        messages: &mut Vec<Message>,
+        max: u32,
+    ) -> Result<(), AllocError>
+        requires place { minion < length fleet.now.tree }
+        requires room { length messages.old.items ≤ max }
+        requires fits { All Within messages.old.items }
+        ensures ok { OnOk result (messages.new.items ≡ take max (messages.old.items ++ pending_ups fleet.now.tree self.now minion)) }
+        ensures fits { OnOk result (All Within messages.new.items) }
+    {
+        let id = fleet.id(minion);
+        let _bytes = id.as_bytes();
+        let known = self.known_ups.known(minion);
+        push_entries(self.alloc, messages, id, known, self.logs.entries(&id), max)?;
+        Ok(())
+    }
+
+    // Why a message is not taken.
+    fn stray_of(&self, fleet: &Fleet, me: NodeId, from: NodeId, message: &Message) -> Option<Stray>
+        requires { me < length fleet.now.tree }
+        ensures { result ≡ stray_of fleet.now.tree me from message.now self.now }
+    {
+        match message {
+            Message::Pub { seq, job } => first_cause(&[
+                (is_neighbour(fleet, me, from), Stray::NotNeighbour),
+                (
+                    fleet.is_parent(from, me) && self.may_take(*seq, job),
+                    Stray::WrongWay,
+                ),
+            ]),
+            Message::Have { jobs } => first_cause(&[
+                (is_neighbour(fleet, me, from), Stray::NotNeighbour),
+                (fleet.is_parent(me, from), Stray::WrongWay),
+                (
+                    *jobs <= self.held,
+                    Stray::AheadJobs {
+                        n: *jobs,
+                        have: self.held,
+                    },
+                ),
+            ]),
+            Message::Up { minion, n, entry } => self.stray_up(fleet, me, from, minion, *n, entry),
+            Message::UpHave { minion, n } => {
+                let have = self.entries(minion);
+                first_cause(&[
+                    (is_neighbour(fleet, me, from), Stray::NotNeighbour),
+                    (fleet.is_parent(from, me), Stray::WrongWay),
+                    (is_here(fleet, me, minion), Stray::NotBelow),
+                    (*n <= have, Stray::AheadUps { n: *n, have }),
+                ])
+            }
+            Message::Hello { .. } => stray_other(fleet, me, from),
+            Message::End => stray_other(fleet, me, from),
+            Message::AskPublish { .. } => stray_other(fleet, me, from),
+            Message::AskReport { .. } => stray_other(fleet, me, from),
+            Message::AskJobs => stray_other(fleet, me, from),
+            Message::AskMine { .. } => stray_other(fleet, me, from),
+            Message::Answer { .. } => stray_other(fleet, me, from),
+        }
+    }
+
+    // Why an entry is not taken.
+    fn stray_up(
+        &self,
+        fleet: &Fleet,
+        me: NodeId,
+        from: NodeId,
+        minion: &MinionId,
+        n: u32,
+        entry: &Entry,
+    ) -> Option<Stray>
+        ensures { result ≡ stray_of fleet.now.tree me from (m.Up minion.now n entry.now) self.now }
+    {
+        let below = is_below(fleet, me, from, minion);
+        let right_way = fleet.is_parent(me, from)
+            && !self.is_minion()
+            && (!below || self.may_record(n, minion, entry));
+        let is_known = n != self.entries(minion) || names_held(self.held, entry);
+        first_cause(&[
+            (is_neighbour(fleet, me, from), Stray::NotNeighbour),
+            (right_way, Stray::WrongWay),
+            (below, Stray::NotBelow),
+            (is_known, Stray::UnknownJob { seq: seq_of(entry) }),
+        ])
+    }
+
+    // Does it run jobs?
+    fn is_minion(&self) -> bool
+        ensures { result ≡ self.now.minion }
+    {
+        matches!(self.logs, Logs::Own(_))
+    }
+
+    // How many entries of a minion it holds.
+    fn entries(&self, minion: &MinionId) -> u32
+        ensures { result ≡ length (log minion.now self.now.records) }
+    {
+        self.logs.entries(minion).len() as u32
+    }
+
+    // May it take a job with this number?
+    fn may_take(&self, seq: u32, job: &Job) -> bool
+        ensures { result ≡ may_take seq job.now self.now }
+    {
+        seq < MOST_JOBS
+            && (self.is_minion() || seq != self.held || is_later(self.jobs.as_slice(), job))
+    }
+
+    // Is the entry no second return of one job, where it would be recorded?
+    fn may_record(&self, n: u32, minion: &MinionId, entry: &Entry) -> bool
+        ensures { result ≡ may_record n minion.now entry.now self.now }
+    {
+        n != self.entries(minion) || is_first(entry, self.logs.entries(minion))
+    }
+
+    // Takes a message that is not stray.
+    fn accept(
+        &mut self,
+        fleet: &Fleet,
+        me: NodeId,
+        from: NodeId,
+        message: &Message,
+    ) -> Result<Option<Message>, AllocError>
+        requires within { me < length fleet.now.tree }
+        requires taken { stray_of fleet.now.tree me from message.now self.old ≡ None }
+        requires counted { IsCounted message.now }
+        requires fits { Within message.now }
+        ensures accepted { IfOk result (λ reply. accepted fleet.now.tree me from message.now self.old ≡ record { node = self.new; answer = answer_of reply }) }
+        ensures counted { IfOk result (λ reply. IfSome reply IsCounted) }
+        ensures fits { IfOk result (λ reply. IfSome reply Within) }
+        ensures err { OnErr result (self.new ≡ self.old) }
+    {
+        match message {
+            Message::Pub { seq, job } => {
+                let have = self.accept_pub(fleet, me, *seq, job)?;
+                Ok(Some(Message::Have { jobs: have }))
+            }
+            Message::Have { jobs } => {
+                self.known_jobs.raise(from, *jobs)?;
+                Ok(None)
+            }
+            Message::Up { minion, n, entry } => {
+                let have = self.accept_up(*minion, *n, entry)?;
+                Ok(Some(Message::UpHave {
+                    minion: *minion,
+                    n: have,
+                }))
+            }
+            Message::UpHave { minion, n } => {
+                self.known_ups.raise(place_of(fleet, minion), *n)?;
+                Ok(None)
+            }
+            Message::Hello { .. } => Ok(None),
+            Message::End => Ok(None),
+            Message::AskPublish { .. } => Ok(None),
+            Message::AskReport { .. } => Ok(None),
+            Message::AskJobs => Ok(None),
+            Message::AskMine { .. } => Ok(None),
+            Message::Answer { .. } => Ok(None),
+        }
+    }
+
+    // A job from the parent, and how many are held then.
+    fn accept_pub(
+        &mut self,
+        fleet: &Fleet,
+        me: NodeId,
+        seq: u32,
+        job: &Job,
+    ) -> Result<u32, AllocError>
+        requires within { me < length fleet.now.tree }
+        requires few { seq < most_jobs }
+        requires fits { JobFits job.now }
+        ensures accepted { IfOk result (λ have. after_pub fleet.now.tree me seq job.now self.old ≡ record { node = self.new; answer = Reply (m.Have have) }) }
+        ensures err { OnErr result (self.new ≡ self.old) }
+    {
+        if seq == self.held {
+            self.take_in(&fleet.id(me), seq, job)?;
+        }
+        Ok(self.held)
+    }
+
+    // The record of a job with the next number: a minion runs it first.
+    fn take_in(&mut self, id: &MinionId, seq: u32, job: &Job) -> Result<(), AllocError>
+        requires next { seq ≡ jobs_held self.old.records }
+        requires few { jobs_held self.old.records < most_jobs }
+        requires fits { JobFits job.now }
+        ensures ok { OnOk result (self.new ≡ with_record (if self.old.minion then done seq job.now id.now self.old.held else Intake job.now) self.old) }
+        ensures err { OnErr result (self.new ≡ self.old) }
+    {
+        if self.is_minion() {
+            self.add_done(id, seq, job)
+        } else {
+            self.add_intake(job)
+        }
+    }
+
+    // A record of a job that it ran.
+    fn add_done(&mut self, id: &MinionId, seq: u32, job: &Job) -> Result<(), AllocError>
+        requires minion { self.old.minion ≡ true }
+        requires next { seq ≡ jobs_held self.old.records }
+        requires few { jobs_held self.old.records < most_jobs }
+        requires fits { JobFits job.now }
+        ensures ok { OnOk result (self.new ≡ with_record (done seq job.now id.now self.old.held) self.old) }
+        ensures err { OnErr result (self.new ≡ self.old) }
+    {
+        let Logs::Own(core) = &mut self.logs else {
+            unreachable!()
+        };
+        push_run(self.alloc, &mut self.records, core, seq, id, job)?;
+        self.held += 1;
+        Ok(())
+    }
+
+    // A record of a job that came from the parent.
+    fn add_intake(&mut self, job: &Job) -> Result<(), AllocError>
+        requires few { length (jobs self.old.records) < most_jobs }
+        requires fits { JobFits job.now }
+        ensures ok { OnOk result (self.new ≡ with_record (Intake job.now) self.old) }
+        ensures err { OnErr result (self.new ≡ self.old) }
+    {
+        let new = job.copy(self.alloc)?;
+        self.add_job(Deed::Intake { job: new }, job)
+    }
+
+    // A record that adds a job.
+    #[tactic(auto, using(crate::proofs::Index::held_same))]
+    fn add_job(&mut self, new: Deed, job: &Job) -> Result<(), AllocError>
+        requires job { IsJobRecord new job.now }
+        requires few { length (jobs self.old.records) < most_jobs }
+        requires fits { JobFits job.now }
+        ensures ok { OnOk result (self.new ≡ with_record new self.old) }
+        ensures err { OnErr result (self.new ≡ self.old) }
+    {
+        push_both(
+            &mut self.records,
+            new,
+            &mut self.jobs,
+            job.copy(self.alloc)?,
+        )?;
+        self.held += 1;
+        Ok(())
+    }
+
+    // An entry from a child, and how many are held then.
+    #[tactic(auto, using(crate::proofs::Takes::up_next))]
+    fn accept_up(&mut self, minion: MinionId, n: u32, entry: &Entry) -> Result<u32, AllocError>
+        requires master { self.old.minion ≡ false }
+        requires counted { n + 1 < 2 ^ 32 }
+        requires fits { EntryFits entry.now }
+        ensures accepted { IfOk result (λ have. after_up minion n entry.now self.old ≡ record { node = self.new; answer = Reply (m.UpHave minion have) }) }
+        ensures err { OnErr result (self.new ≡ self.old) }
+    {
+        let have = self.entries(&minion);
+        if n == have {
+            self.add_up(minion, entry)?;
+            Ok(n + 1)
+        } else {
+            Ok(have)
+        }
+    }
+
+    // A record of an entry from below.
+    fn add_up(&mut self, minion: MinionId, entry: &Entry) -> Result<(), AllocError>
+        requires master { self.old.minion ≡ false }
+        requires room { length (log minion self.old.records) + 1 < 2 ^ 32 }
+        requires fits { EntryFits entry.now }
+        ensures ok { OnOk result (self.new ≡ with_record (Up minion entry.now) self.old) }
+        ensures err { OnErr result (self.new ≡ self.old) }
+    {
+        let Logs::Below(map) = &mut self.logs else {
+            unreachable!()
+        };
+        push_up(self.alloc, &mut self.records, map, minion, entry)?;
+        Ok(())
+    }
+}
+
+// A job for the minions whose ids a glob holds for.
+fn glob_job(
+    alloc: Global,
+    jid: Jid,
+    tgt: &Glob,
+    fun: &Word,
+    args: &[Value],
+) -> Result<Job, AllocError>
+    requires { ValueFits (v.List args.now) }
+    ensures ok { IfOk result (λ job. job ≡ job_of jid tgt.now fun.now args.now) }
+    ensures fits { IfOk result JobFits }
+{
+    let _micros = jid.micros();
+    let _text = tgt.text().as_str();
+    let _word = fun.as_bytes();
+    Ok(Job {
+        jid,
+        kind: Kind::Glob,
+        tgt: tgt.text().copy()?,
+        target: Target::IdGlob(tgt.text().copy()?),
+        fun: fun.copy()?,
+        args: copy_items(alloc, args)?,
+    })
 }

@@ -13,7 +13,8 @@ pub returns : goal.returns
 returns c =
     let made = c.in_ok-ran.ensures.ok ∙ ap (λ a. run c.args.job.now.fun a c.args.held.now) c.as_slice.ensures in
     let is = c.in_ok-deed.ensures ∙ ap (done_by c.args.seq c.args.held.now) made in
-    let args = subst (λ (a : List Value). ValueFits (v.List a)) (sym c.as_slice.ensures) c.requires.job.args in
-    (is,
-     subst DeedFits (sym c.in_ok-deed.ensures) (done_fits c.args.seq c.args.held.now c.in_ok-ran.ran c.ranges.seq.fits c.requires.held (c.in_ok-ran.ensures.fits args)),
-     subst (λ (d : Deed). length (entries_in d) ≤ 2) (sym is) (done_few c.args.seq c.args.job.now.fun c.args.job.now.args c.args.held.now))
+    let args = subst (λ (a : List Value). ValueFits (v.List a)) (sym c.as_slice.ensures) c.requires.job.args in (
+      is,
+      subst DeedFits (sym c.in_ok-deed.ensures) (done_fits c.args.seq c.args.held.now c.in_ok-ran.ran c.ranges.seq.fits c.requires.held (c.in_ok-ran.ensures.fits args)),
+      subst (λ (d : Deed). length (entries_in d) ≤ 2) (sym is) (done_few c.args.seq c.args.job.now.fun c.args.job.now.args c.args.held.now),
+    )

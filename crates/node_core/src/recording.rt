@@ -10,7 +10,7 @@ ghost use Rattle.salt_wire.specs.declared.deed.Deed.TheVariants.{Up};
 
 use crate::logs::push_below;
 use indexmap::IndexMap;
-use minion_core::MinionCore;
+use minion_core::{MinionCore, done};
 use salt_value::MinionId;
 use salt_wire::{Deed, Entries, Entry, Job};
 use std::alloc::{AllocError, Global};
@@ -75,12 +75,8 @@ pub fn push_up(
     }
 }
 
-/// A record more, which the core of a minion takes in, or neither.
-pub fn push_done(
-    records: &mut Vec<Deed>,
-    core: &mut MinionCore,
-    deed: Deed,
-) -> Result<(), AllocError>
+// A record more, which the core of a minion takes in, or neither.
+fn push_done(records: &mut Vec<Deed>, core: &mut MinionCore, deed: Deed) -> Result<(), AllocError>
     requires fits { DeedFits deed }
     requires room { HasRoom deed core.old }
     ensures records { OnOk result (records.new.items ≡ records.old.items ++ deed ∷ []) }
@@ -97,4 +93,27 @@ pub fn push_done(
             Err(fault)
         }
     }
+}
+
+/// A record of a job of a minion, which its core takes in, or neither.
+#[tactic(auto, using(crate::proofs::Index::room_done))]
+pub fn push_run(
+    alloc: Global,
+    records: &mut Vec<Deed>,
+    core: &mut MinionCore,
+    seq: u32,
+    id: &MinionId,
+    job: &Job,
+) -> Result<(), AllocError>
+    requires fits { JobFits job.now }
+    requires room { core.old.jobs + 1 < 2 ^ 32 }
+    ensures records { OnOk result (records.new.items ≡ records.old.items ++ flat.done seq job.now id.now core.old.held ∷ []) }
+    ensures core { OnOk result (core.new ≡ after (flat.done seq job.now id.now core.old.held) core.old) }
+    ensures few { OnOk result (length (flat.entries_in (flat.done seq job.now id.now core.old.held)) ≤ 2) }
+    ensures fits { OnOk result (DeedFits (flat.done seq job.now id.now core.old.held)) }
+    ensures kept_records { OnErr result (records.new.items ≡ records.old.items) }
+    ensures kept_core { OnErr result (core.new ≡ core.old) }
+{
+    let deed = done(alloc, seq, job, id, core.held())?;
+    push_done(records, core, deed)
 }
