@@ -1,9 +1,16 @@
-//! What the tests make: ids, fleets and targets.
+//! What the tests make: ids, fleets, targets, and jobs.
+ghost use Rattle.std.specs.Bool.{OnTrue};
+ghost use Rattle.salt_value.specs.WellFormed.{ValueFits};
+ghost use Rattle.salt_value.specs.declared.value.Value.TheVariants as v;
+ghost use Rattle.salt_wire.specs.Limits.{JobFits};
+
 use fleet_config::{Fleet, FleetNode, NodeFault, Role};
 use node_core::Glob;
-use salt_value::{MinionId, NodeId, Text};
+use salt_value::{Items, Jid, MinionId, NodeId, Text, Value, Word, copy_items};
+use salt_wire::Job;
 use std::alloc::Global;
 use std::process::Abort;
+use target_tree::{Kind, Target};
 
 /// What is said where a step that must succeed doesn't.
 pub const FAILED: &str = "memory, or a right text";
@@ -69,4 +76,70 @@ pub fn grown(rt: &impl Abort, alloc: Global, nodes: &[Sown]) -> Fleet {
 pub fn target(rt: &impl Abort, alloc: Global, text: &str) -> Glob {
     let text = String::from_str(alloc, text).expect(rt, FAILED);
     Glob::new(Text::new(text)).expect(rt, FAILED)
+}
+
+/// The word that a text is.
+pub fn word(rt: &impl Abort, alloc: Global, text: &str) -> Word {
+    Word::read(alloc, text).expect(rt, FAILED)
+}
+
+/// One text as an argument, and no argument where the text is empty.
+pub fn arguments(rt: &impl Abort, alloc: Global, text: &str) -> Items {
+    let mut items = Items::new(alloc);
+    if !text.is_empty() {
+        let text = String::from_str(alloc, text).expect(rt, FAILED);
+        items.push(Value::Str(Text::new(text))).expect(rt, FAILED);
+    }
+    items
+}
+
+// Are the arguments within the limits of a value?
+fn args_fit(alloc: Global, args: &[Value]) -> bool
+    ensures value { OnTrue result (ValueFits (v.List args.now)) }
+{
+    match copy_items(alloc, args) {
+        Ok(items) => {
+            let whole = Value::List(items);
+            whole.fits()
+        }
+        Err(_) => false,
+    }
+}
+
+// A job for all minions.
+fn job_for_all(
+    rt: &impl Abort,
+    alloc: Global,
+    moment: u64,
+    tgt: &Glob,
+    fun: Word,
+    args: Items,
+) -> Job
+    requires { ValueFits (v.List args) }
+    ensures value { JobFits result }
+{
+    let jid = Jid::next(None, moment).expect(rt, FAILED);
+    let _micros = jid.micros();
+    let _text = tgt.text().as_str();
+    let _word = fun.as_bytes();
+    Job {
+        jid,
+        kind: Kind::Glob,
+        tgt: tgt.text().copy().expect(rt, FAILED),
+        target: Target::IdGlob(tgt.text().copy().expect(rt, FAILED)),
+        fun,
+        args,
+    }
+}
+
+/// A job of this function and argument for all minions, with the jid of this moment.
+pub fn job(rt: &impl Abort, alloc: Global, moment: u64, fun: &str, arg: &str) -> Job
+    ensures value { JobFits result }
+{
+    let args = arguments(rt, alloc, arg);
+    if !args_fit(alloc, args.as_slice()) {
+        panic!(rt; "{FAILED}");
+    }
+    let tgt = target(rt, alloc, "*");
+    job_for_all(rt, alloc, moment, &tgt, word(rt, alloc, fun), args)
 }

@@ -1,16 +1,16 @@
 //! The nodes of a flat fleet, step by step. The expectations are worked out by hand from the rules of a call.
-use crate::made::{FAILED, pair, target};
-use crate::steps::{Asked, Reply, Sent, Step, has_jobs, has_returns, takes, tells};
+use crate::made::{FAILED, pair, target, word};
+use crate::steps::{Asked, Reply, Sent, Step, has_jobs, has_outcomes, has_returns, takes, tells};
 use fleet_config::Fleet;
 use node_core::{Glob, Node, PendFault, PublishFault, Stray, TakeFault};
-use salt_value::NodeId;
+use salt_value::{NodeId, Word};
 use std::alloc::Global;
 use std::process::Abort;
 
 // How many of so many publications are accepted before one is refused.
-fn publish(top: &mut Node, fleet: &Fleet, tgt: &Glob, count: u32) -> u32 {
+fn publish(top: &mut Node, fleet: &Fleet, tgt: &Glob, ping: &Word, count: u32) -> u32 {
     for done in 0..count {
-        if top.publish(fleet, 7, tgt).is_err() {
+        if top.publish(fleet, 7, tgt, ping, &[]).is_err() {
             return done;
         }
     }
@@ -20,7 +20,13 @@ fn publish(top: &mut Node, fleet: &Fleet, tgt: &Glob, count: u32) -> u32 {
 // A top that published so many jobs.
 fn published(rt: &impl Abort, alloc: Global, fleet: &Fleet, tgt: &str, count: u32) -> Node {
     let mut top = Node::start(alloc, fleet, NodeId::TOP).expect(rt, FAILED);
-    publish(&mut top, fleet, &target(rt, alloc, tgt), count);
+    publish(
+        &mut top,
+        fleet,
+        &target(rt, alloc, tgt),
+        &word(rt, alloc, "test.ping"),
+        count,
+    );
     top
 }
 
@@ -130,8 +136,9 @@ fn jid_text(
     fleet: &Fleet,
     moment: u64,
     tgt: &Glob,
+    ping: &Word,
 ) -> Result<[u8; 20], PublishFault> {
-    match top.publish(fleet, moment, tgt) {
+    match top.publish(fleet, moment, tgt, ping, &[]) {
         Ok(jid) => Ok(jid.text()),
         Err(fault) => Err(fault),
     }
@@ -143,11 +150,23 @@ fn publishes(
     top: &mut Node,
     fleet: &Fleet,
     tgt: &Glob,
+    ping: &Word,
     rows: &[(u64, Result<[u8; 20], PublishFault>)],
 ) {
     for (moment, jid) in rows {
-        assert_eq!(rt; jid_text(top, fleet, *moment, tgt), *jid);
+        assert_eq!(rt; jid_text(top, fleet, *moment, tgt, ping), *jid);
     }
+}
+
+fn publishes_ping(
+    rt: &impl Abort,
+    alloc: Global,
+    top: &mut Node,
+    fleet: &Fleet,
+    rows: &[(u64, Result<[u8; 20], PublishFault>)],
+) {
+    let ping = word(rt, alloc, "test.ping");
+    publishes(rt, top, fleet, &target(rt, alloc, "*"), &ping, rows);
 }
 
 static LAST_JIDS: [(u64, Result<[u8; 20], PublishFault>); 3] = [
@@ -161,7 +180,7 @@ fn publications_end_at_the_last_jid(rt: HostRuntime) {
     let alloc = rt.alloc();
     let fleet = pair(&rt, alloc);
     let mut top = published(&rt, alloc, &fleet, "*", 0);
-    publishes(&rt, &mut top, &fleet, &target(&rt, alloc, "*"), &LAST_JIDS);
+    publishes_ping(&rt, alloc, &mut top, &fleet, &LAST_JIDS);
     has_jobs(&rt, &top, 1);
 }
 
@@ -176,7 +195,7 @@ fn publications_end_at_65535_jobs(rt: HostRuntime) {
     let fleet = pair(&rt, alloc);
     let mut top = published(&rt, alloc, &fleet, "*", 65_600);
     has_jobs(&rt, &top, 65_535);
-    publishes(&rt, &mut top, &fleet, &target(&rt, alloc, "*"), &FULL);
+    publishes_ping(&rt, alloc, &mut top, &fleet, &FULL);
 }
 
 static FULL_AT_2: [(u64, Result<[u8; 20], PublishFault>); 1] = [(
@@ -191,8 +210,74 @@ fn publications_end_where_the_fleet_says(rt: HostRuntime) {
     fleet.limit_jobs(2);
     let mut top = published(&rt, alloc, &fleet, "*", 9);
     has_jobs(&rt, &top, 2);
-    publishes(&rt, &mut top, &fleet, &target(&rt, alloc, "*"), &FULL_AT_2);
+    publishes_ping(&rt, alloc, &mut top, &fleet, &FULL_AT_2);
 }
+
+// What a minion runs: a function that is none, and one that counts; and messages that no node takes.
+static RUNS: [Step; 6] = [
+    (0, Sent::Run(0, "test.nothing", ""), Reply::Jobs(1)),
+    (0, Sent::Run(1, "data.incr", "n"), Reply::Jobs(2)),
+    (0, Sent::Run(2, "data.incr", "n"), Reply::Jobs(3)),
+    (0, Sent::Hello("top"), Reply::Refused(Stray::WrongWay)),
+    (0, Sent::End, Reply::Refused(Stray::WrongWay)),
+    (1, Sent::AskJobs, Reply::Refused(Stray::NotNeighbour)),
+];
+
+static OUTCOMES: [(u32, Option<(u8, i64)>); 4] = [
+    (0, Some((254, 0))),
+    (1, Some((0, 1))),
+    (2, Some((0, 2))),
+    (3, None),
+];
+
+#[test]
+fn a_minion_runs_each_job_on_what_it_holds_then(rt: HostRuntime) {
+    let alloc = rt.alloc();
+    let fleet = pair(&rt, alloc);
+    let mut node = Node::start(alloc, &fleet, NodeId::new(1)).expect(&rt, FAILED);
+    takes(&rt, alloc, &mut node, &fleet, 1, &RUNS);
+    has_outcomes(&rt, &node, "m2", &OUTCOMES);
+}
+
+static TELLING: [Step; 2] = [
+    (0, Sent::Run(0, "mine.send", "test.ping"), Reply::Jobs(1)),
+    (0, Sent::Run(1, "event.send", "door/open"), Reply::Jobs(2)),
+];
+
+// the count of jobs, the start, and of each job its note and its return
+static TOLD: [Asked; 1] = [(0, 9, 6)];
+
+#[test]
+fn a_minion_tells_its_notes_before_its_returns(rt: HostRuntime) {
+    let alloc = rt.alloc();
+    let fleet = pair(&rt, alloc);
+    let mut node = Node::start(alloc, &fleet, NodeId::new(1)).expect(&rt, FAILED);
+    takes(&rt, alloc, &mut node, &fleet, 1, &TELLING);
+    tells(&rt, &node, &fleet, 1, &TOLD);
+}
+
+static NOTES: [Step; 5] = [
+    (1, Sent::Start("m2", 0), Reply::Entries(1)),
+    (1, Sent::Mine("m2", 1, 0), Reply::Entries(2)),
+    (
+        1,
+        Sent::Mine("m2", 2, 1),
+        Reply::Refused(Stray::UnknownJob { seq: 1 }),
+    ),
+    (1, Sent::Fired("m2", 2), Reply::Entries(3)),
+    (1, Sent::Return("m2", 3, 0), Reply::Entries(4)),
+];
+
+#[test]
+fn a_top_takes_the_notes_of_a_minion(rt: HostRuntime) {
+    let alloc = rt.alloc();
+    let fleet = pair(&rt, alloc);
+    let mut top = published(&rt, alloc, &fleet, "*", 1);
+    takes(&rt, alloc, &mut top, &fleet, 0, &NOTES);
+    has_outcomes(&rt, &top, "m2", &NOTED);
+}
+
+static NOTED: [(u32, Option<(u8, i64)>); 1] = [(0, Some((0, 0)))];
 
 static STRAY_TEXTS: [(Stray, &str); 6] = [
     (

@@ -1,25 +1,37 @@
 //! Messages that a node is sent, what it answers to them, and what it has for its neighbours.
 ghost use Rattle.std.specs.Bool.{OnTrue};
 ghost use Rattle.node_core.specs.Node.{IsCounted};
+ghost use Rattle.salt_wire.specs.Limits.{Within, EntryFits};
 
-use crate::made::{FAILED, id, target};
+use crate::made::{FAILED, id, job, word};
 use fleet_config::Fleet;
-use node_core::{Entry, Job, Message, Node, Outcome, PendFault, Stray, TakeFault};
-use salt_value::{Jid, NodeId};
+use node_core::{Node, PendFault, Stray, TakeFault};
+use salt_value::{Event, Fields, NodeId, Outcome, Value};
+use salt_wire::{Entry, Message};
 use std::alloc::Global;
 use std::process::Abort;
 
 /// A message that a step sends.
 #[derive(Clone, Copy, Debug)]
 pub enum Sent {
-    /// A job for all minions, by its number and the moment of its jid.
+    /// The job `test.ping` for all minions, by its number and the moment of its jid.
     Pub(u32, u64),
+    /// A job of this function with this argument, none where it is empty, by its number.
+    Run(u32, &'static str, &'static str),
     Have(u32),
     /// The entry of this number of a minion: that it has started.
     Start(&'static str, u32),
     /// The entry of this number of a minion: its return of this job.
     Return(&'static str, u32, u32),
+    /// The entry of this number of a minion: an event.
+    Fired(&'static str, u32),
+    /// The entry of this number of a minion: that this job changed its mine.
+    Mine(&'static str, u32, u32),
     UpHave(&'static str, u32),
+    /// Messages that no node takes.
+    Hello(&'static str),
+    End,
+    AskJobs,
 }
 
 /// What a node answers to it.
@@ -41,36 +53,88 @@ pub type Step = (u32, Sent, Reply);
 /// A neighbour, the most messages that it asks for, and how many there are: 99 for a node that is no neighbour.
 pub type Asked = (u32, u32, usize);
 
-fn message(rt: &impl Abort, alloc: Global, sent: Sent) -> Message {
+// An entry of a minion.
+fn entry(rt: &impl Abort, minion: &str, n: u32, entry: Entry) -> Message
+    requires { EntryFits entry }
+    ensures value { Within result }
+{
+    let minion = id(rt, minion);
+    let _bytes = minion.as_bytes();
+    Message::Up { minion, n, entry }
+}
+
+// The return of a job.
+fn returned(seq: u32) -> Entry
+    ensures value { EntryFits result }
+{
+    let outcome = Outcome {
+        retcode: 0,
+        value: Value::Flag(true),
+    };
+    Entry::Return { seq, outcome }
+}
+
+// An event with this tag.
+fn fired(rt: &impl Abort, alloc: Global, tag: &str) -> Entry
+    ensures value { EntryFits result }
+{
+    let tag = word(rt, alloc, tag);
+    let _bytes = tag.as_bytes();
+    let body = Value::Null;
+    Entry::Fired {
+        event: Event { tag, body },
+    }
+}
+
+// A change of the mine that leaves nothing in it.
+fn mined(alloc: Global, seq: u32) -> Entry
+    ensures value { EntryFits result }
+{
+    Entry::Mine {
+        seq,
+        mine: Fields::new(alloc),
+        grains: Fields::new(alloc),
+        pillar: Fields::new(alloc),
+    }
+}
+
+fn have_of(rt: &impl Abort, minion: &str, n: u32) -> Message
+    ensures value { Within result }
+{
+    let minion = id(rt, minion);
+    let _bytes = minion.as_bytes();
+    Message::UpHave { minion, n }
+}
+
+fn hello(rt: &impl Abort, minion: &str) -> Message
+    ensures value { Within result }
+{
+    let id = id(rt, minion);
+    let _bytes = id.as_bytes();
+    Message::Hello { id }
+}
+
+fn message(rt: &impl Abort, alloc: Global, sent: Sent) -> Message
+    ensures value { Within result }
+{
     match sent {
         Sent::Pub(seq, moment) => Message::Pub {
             seq,
-            job: Job {
-                jid: Jid::next(None, moment).expect(rt, FAILED),
-                tgt: target(rt, alloc, "*"),
-            },
+            job: job(rt, alloc, moment, "test.ping", ""),
+        },
+        Sent::Run(seq, fun, arg) => Message::Pub {
+            seq,
+            job: job(rt, alloc, 7, fun, arg),
         },
         Sent::Have(jobs) => Message::Have { jobs },
-        Sent::Start(minion, n) => Message::Up {
-            minion: id(rt, minion),
-            n,
-            entry: Entry::Start { boot: 1 },
-        },
-        Sent::Return(minion, n, seq) => Message::Up {
-            minion: id(rt, minion),
-            n,
-            entry: Entry::Return {
-                seq,
-                outcome: Outcome {
-                    retcode: 0,
-                    value: true,
-                },
-            },
-        },
-        Sent::UpHave(minion, n) => Message::UpHave {
-            minion: id(rt, minion),
-            n,
-        },
+        Sent::Start(minion, n) => entry(rt, minion, n, Entry::Start { boot: 1 }),
+        Sent::Return(minion, n, seq) => entry(rt, minion, n, returned(seq)),
+        Sent::Fired(minion, n) => entry(rt, minion, n, fired(rt, alloc, "door/open")),
+        Sent::Mine(minion, n, seq) => entry(rt, minion, n, mined(alloc, seq)),
+        Sent::UpHave(minion, n) => have_of(rt, minion, n),
+        Sent::Hello(minion) => hello(rt, minion),
+        Sent::End => Message::End,
+        Sent::AskJobs => Message::AskJobs,
     }
 }
 
@@ -80,7 +144,7 @@ fn is_counted(message: &Message) -> bool
 {
     match message {
         Message::Up { n, .. } => *n < u32::MAX,
-        Message::Pub { .. } | Message::Have { .. } | Message::UpHave { .. } => true,
+        _ => true,
     }
 }
 
@@ -95,7 +159,9 @@ fn reply_of(answer: Result<Option<Message>, TakeFault>) -> Reply {
     }
 }
 
-fn take(node: &mut Node, fleet: &Fleet, me: u32, from: u32, message: &Message) -> Reply {
+fn take(node: &mut Node, fleet: &Fleet, me: u32, from: u32, message: &Message) -> Reply
+    requires { Within message.now }
+{
     if me >= fleet.count() || !is_counted(message) {
         return Reply::Other;
     }
@@ -140,6 +206,25 @@ pub fn has_returns(rt: &impl Abort, node: &Node, rows: &[(&str, u32, bool)]) {
     for (minion, seq, wanted) in rows {
         let has = node.outcome(&id(rt, minion), *seq).is_some();
         assert_eq!(rt; has, *wanted, "{minion} {seq}");
+    }
+}
+
+// The retcode of an outcome, and the number that it answered, 0 where it is no number.
+fn told(outcome: Option<&Outcome>) -> Option<(u8, i64)> {
+    match outcome {
+        Some(outcome) => match &outcome.value {
+            Value::Int(number) => Some((outcome.retcode, *number)),
+            _ => Some((outcome.retcode, 0)),
+        },
+        None => None,
+    }
+}
+
+/// What a minion returned of each job: its retcode, and its number.
+pub fn has_outcomes(rt: &impl Abort, node: &Node, minion: &str, rows: &[(u32, Option<(u8, i64)>)]) {
+    for (seq, wanted) in rows {
+        let outcome = told(node.outcome(&id(rt, minion), *seq));
+        assert_eq!(rt; outcome, *wanted, "of job {seq}");
     }
 }
 

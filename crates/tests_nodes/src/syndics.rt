@@ -1,5 +1,5 @@
 //! A syndic of a tree: jobs go down through it, and entries up.
-use crate::made::{FAILED, TREE, grown, target};
+use crate::made::{FAILED, TREE, grown, target, word};
 use crate::steps::{Asked, Reply, Sent, Step, has_jobs, has_returns, takes, tells};
 use node_core::{Node, Stray};
 use salt_value::NodeId;
@@ -108,7 +108,8 @@ fn a_top_takes_the_entries_that_a_syndic_relays(rt: HostRuntime) {
     let alloc = rt.alloc();
     let fleet = grown(&rt, alloc, &TREE);
     let mut top = Node::start(alloc, &fleet, NodeId::TOP).expect(&rt, FAILED);
-    top.publish(&fleet, 7, &target(&rt, alloc, "*"))
+    let ping = word(&rt, alloc, "test.ping");
+    top.publish(&fleet, 7, &target(&rt, alloc, "*"), &ping, &[])
         .expect(&rt, FAILED);
     takes(&rt, alloc, &mut top, &fleet, 0, &TOP);
     tells(&rt, &top, &fleet, 0, &TOP_TELLS);

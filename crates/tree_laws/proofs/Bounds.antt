@@ -1,5 +1,5 @@
 -- The top holds at most as many jobs as its fleet says.
-use Rattle.std.proofs.Common.{◌≡◌, ℕ, zero, suc, ◌+◌, ◌<◌, ◌≤◌, ◌∙◌, refl, subst, sym, inl, inr, Bool, true, false, nat_lt, nat_le, ◌&&◌, ◌==◌, List, [], ◌∷◌, ◌++◌, length, set, arith, append-nil}
+use Rattle.std.proofs.Common.{◌≡◌, ℕ, zero, suc, ◌<◌, ◌≤◌, ◌∙◌, refl, subst, sym, inl, inr, Bool, true, false, nat_lt, ◌&&◌, ◌==◌, List, [], ◌∷◌, length, set, arith, append-nil}
 use Rattle.std.specs.Prelude.{Option, None, Some, slice_get}
 use Rattle.std.specs.List.{AllByRecursion}
 use Rattle.std.proofs.lemmas.List.{length_push, set_past}
@@ -14,12 +14,11 @@ use Rattle.salt_wire.specs.declared.message.Message.TheVariants as msg
 use Rattle.salt_wire.specs.declared.deed.Deed.TheVariants.{Publish, Up}
 use Rattle.node_core.specs.declared.faults.Stray.{Stray}
 use Rattle.node_core.specs.declared.faults.Stray.TheVariants.{NotNeighbour, WrongWay}
-use Rattle.node_core.specs.Records.{jobs, jobs_held, log}
+use Rattle.node_core.specs.Records.{jobs, log}
 use Rattle.node_core.specs.Node.{NodeState, Taken, with_record, recorded, after_pub, accepted, is_neighbour, may_take, stray_of, unless_stray, taken}
 use Rattle.fleet_turns.specs.declared.turn.Turn.{Turn}
 use Rattle.fleet_turns.specs.declared.turn.Turn.TheVariants as kind
 use Rattle.fleet_turns.specs.Turns.{IsTurn}
-use Rattle.tree_world.specs.Packets.{Packet}
 use Rattle.tree_world.specs.Network.{Network, ping_of, node_at, start, top_jobs, received, delivered, after, after_all}
 use Rattle.tree_laws.specs.Invariant.{Holds}
 use Rattle.tree_laws.proofs.Records.{jobs_push}

@@ -13,7 +13,6 @@ use Rattle.salt_wire.specs.declared.message.Message.{Message}
 use Rattle.salt_wire.specs.declared.message.Message.TheVariants as msg
 use Rattle.node_core.specs.Records.{jobs_held, log}
 use Rattle.node_core.specs.Node.{NodeState, Taken, with_record, recorded, taken_in, accepted, stray_of, unless_stray, taken}
-use Rattle.salt_wire.specs.declared.message.Job.{Job}
 use Rattle.fleet_turns.specs.declared.turn.Turn.{Turn}
 use Rattle.fleet_turns.specs.declared.turn.Turn.TheVariants as kind
 use Rattle.tree_world.specs.Network.{ping_of, Network, node_at, top_jobs, received, delivered, after, after_all}
