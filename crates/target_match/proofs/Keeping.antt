@@ -6,7 +6,7 @@ use Rattle.std.proofs.lemmas.Cmp.{nat_list_eq_equiv}
 use Rattle.std.proofs.lemmas.Slice.Eq.{bytes_eq-Decides}
 use Rattle.std.proofs.lemmas.Map.Keys.{IsDistinct-push}
 use Rattle.std.proofs.lemmas.List.{append_assoc, append-nil}
-use Rattle.std.proofs.lemmas.List.Folds.{list_all-append}
+use Rattle.std.proofs.lemmas.List.Folds.{list_all-append, list_any-append}
 use Rattle.std.proofs.lemmas.List.Quantifiers.{position-Some}
 use Rattle.std.proofs.lemmas.Iterator.Adapters.{position_from-zero}
 use Rattle.target_tree.specs.declared.target.Target.{fold-roll-Target}
@@ -16,7 +16,7 @@ use Rattle.target_match.specs.declared.ready.Ready.{Ready}
 use Rattle.target_match.specs.declared.ready.Ready.TheVariants as R
 use Rattle.target_match.specs.Paths.{parts, pattern_of}
 use Rattle.target_match.specs.Holds.{patterns_layer, patterns}
-use Rattle.target_match.specs.Searches.{is_searched, Keeps}
+use Rattle.target_match.specs.Searches.{is_searched, has_pattern, Keeps}
 use Rattle.target_match.specs.Ready.{target_of}
 use Rattle.target_match.proofs.Readied.{of-IdPcre, of-GrainPcre, of-PillarPcre, of-Not, of-And, of-Or, both_true}
 
@@ -38,9 +38,36 @@ none_from test i (x ∷ xs) e = none_case (test x) (list_any test xs) i (positio
 pub none_found : (test : List ℕ → Bool) (xs : List (List ℕ)) → position test xs ≡ None → list_any test xs ≡ false
 none_found test xs e = none_from test 0 xs (sym (position_from-zero test xs) ∙ e)
 
+-- of two tests
+pub first_true : (a b : Bool) → a ≡ true → (a || b) ≡ true
+first_true true b e = refl
+first_true false b e = absurd cc
+
+second_true : (a b : Bool) → b ≡ true → (a || b) ≡ true
+second_true true b e = refl
+second_true false b e = e
+
+pub joined_true : (a b : Bool) → a ≡ true → b ≡ true → (a && b) ≡ true
+joined_true true b e f = f
+joined_true false b e f = absurd cc
+
+-- a pattern of one part is one of the whole
+left_has : (pattern : List ℕ) (l r : List (Option (List ℕ))) → list_any (has_pattern pattern) l ≡ true → list_any (has_pattern pattern) (l ++ r) ≡ true
+left_has pattern l r h = list_any-append (has_pattern pattern) l r ∙ first_true _ _ h
+
+right_has : (pattern : List ℕ) (l r : List (Option (List ℕ))) → list_any (has_pattern pattern) r ≡ true → list_any (has_pattern pattern) (l ++ r) ≡ true
+right_has pattern l r h = list_any-append (has_pattern pattern) l r ∙ second_true _ _ h
+
+-- a test that passes where another does
+pub all_pass : {A : Type 0} (f g : A → Bool) → ((x : A) → f x ≡ true → g x ≡ true) → (xs : List A) → list_all f xs ≡ true → list_all g xs ≡ true
+all_pass f g each [] h = refl
+all_pass f g each (x ∷ xs) h =
+    let two = both_true (f x) (list_all f xs) h in
+    joined_true (g x) (list_all g xs) (each x two.0) (all_pass f g each xs two.1)
+
 -- nothing is made
 pub same : (leaves : List (Option (List ℕ))) (xs : List (List ℕ)) → Keeps leaves xs xs
-same leaves xs = record { more = []; first = sym (append-nil xs); distinct = λ d. d; enough = λ h. refl }
+same leaves xs = record { more = []; first = sym (append-nil xs); only = refl; distinct = λ d. d; enough = λ h. refl }
 
 one_leaf : (b : Bool) → (b && true) ≡ true → b ≡ false → ⊥
 one_leaf true h e = cc
@@ -51,6 +78,7 @@ pub made : (pattern : List ℕ) (xs : List (List ℕ)) → list_any (bytes_eq pa
 made pattern xs e = record {
   more = pattern ∷ [];
   first = refl;
+  only = ap (λ b. (b || false) && true) ((bytes_eq-Decides pattern pattern).1 refl);
   distinct = λ d. IsDistinct-push nat_list_eq_equiv xs pattern d e;
   enough = λ h. absurd (one_leaf (list_any (bytes_eq pattern) xs) h e);
 }
@@ -68,15 +96,21 @@ first_part : (l r : List (Option (List ℕ))) (before after : List (List ℕ)) �
 first_part l r before after k = record {
   more = k.more;
   first = k.first;
+  only = all_pass (λ p. list_any (has_pattern p) l) (λ p. list_any (has_pattern p) (l ++ r)) (λ p. left_has p l r) k.more k.only;
   distinct = k.distinct;
   enough = λ h. k.enough (both_searched l r before h).0;
 }
 
 -- the first leaves are decided and then the others
-both_parts : (l r : List (Option (List ℕ))) (before between after : List (List ℕ)) → Keeps l before between → Keeps r between after → Keeps (l ++ r) before after
+pub both_parts : (l r : List (Option (List ℕ))) (before between after : List (List ℕ)) → Keeps l before between → Keeps r between after → Keeps (l ++ r) before after
 both_parts l r before between after k j = record {
   more = k.more ++ j.more;
   first = j.first ∙ ap (λ (xs : List (List ℕ)). xs ++ j.more) k.first ∙ append_assoc before k.more j.more;
+  only =
+      list_all-append (λ p. list_any (has_pattern p) (l ++ r)) k.more j.more
+      ∙ joined_true _ _
+      (all_pass (λ p. list_any (has_pattern p) l) (λ p. list_any (has_pattern p) (l ++ r)) (λ p. left_has p l r) k.more k.only)
+      (all_pass (λ p. list_any (has_pattern p) r) (λ p. list_any (has_pattern p) (l ++ r)) (λ p. right_has p l r) j.more j.only);
   distinct = λ d. j.distinct (k.distinct d);
   enough = λ h.
       let parts = both_searched l r before h in

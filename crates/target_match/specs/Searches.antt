@@ -10,10 +10,16 @@ abbrev pub is_searched : List (List ℕ) → Option (List ℕ) → Bool
 is_searched searches None = true
 is_searched searches (Some pattern) = list_any (bytes_eq pattern) searches
 
--- the searches before come first still, no pattern gets a second one, and where each pattern has one there are no more
+-- the leaf has this pattern
+abbrev pub has_pattern : List ℕ → Option (List ℕ) → Bool
+has_pattern pattern None = false
+has_pattern pattern (Some own) = bytes_eq own pattern
+
+-- the searches before come first still, those after them are of patterns of these leaves, no pattern gets a second one, and where each pattern has one there are no more
 pub record Keeps (leaves : List (Option (List ℕ))) (before after : List (List ℕ)) : Type 0 where
   pub more : List (List ℕ)
   pub first : after ≡ before ++ more
+  pub only : IsTrue (list_all (λ pattern. list_any (has_pattern pattern) leaves) more)
   pub distinct : IsDistinct bytes_eq before → IsDistinct bytes_eq after
   pub enough : IsTrue (list_all (is_searched before) leaves) → after ≡ before
 
@@ -29,8 +35,9 @@ pub data Asks (id : List ℕ) (grains pillar : Data) : Target → List (Option (
   or_else : {left right : Target} {first others : List (Option (List ℕ))} → holds left id grains pillar ≡ false → Asks id grains pillar left first → Asks id grains pillar right others
       → Asks id grains pillar (Or left right) (first ++ others)
 
--- Each leaf that is asked for this minion has no pattern, or one with a search.
-pub record HasSearches (id : List ℕ) (grains pillar : Data) (tree : Target) (searches : List (List ℕ)) : Type 0 where
+-- Each pattern that is asked for this minion has a search, and for no other one was a search made.
+pub record HasSearches (id : List ℕ) (grains pillar : Data) (tree : Target) (before after : List (List ℕ)) : Type 0 where
   pub leaves : List (Option (List ℕ))
   pub asked : Asks id grains pillar tree leaves
-  pub searched : IsTrue (list_all (is_searched searches) leaves)
+  pub searched : IsTrue (list_all (is_searched after) leaves)
+  pub keeps : Keeps leaves before after

@@ -23,7 +23,7 @@ pub fn holds<'m>(
 ) -> Result<bool, AllocError>
     ensures ok { IfOk result (λ b. b ≡ holds (target_of ready.now) id.now grains.now pillar.now) }
     ensures searches { Keeps (patterns (target_of ready.now)) searches.old.items searches.new.items }
-    ensures asked { OnOk result (HasSearches id.now grains.now pillar.now (target_of ready.now) searches.new.items) }
+    ensures asked { OnOk result (HasSearches id.now grains.now pillar.now (target_of ready.now) searches.old.items searches.new.items) }
     ensures memory { IsTrue (is_by_id (target_of ready.now)) → IsOk result }
 {
     match ready {

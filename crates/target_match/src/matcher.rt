@@ -74,7 +74,7 @@ impl Matcher {
     }
 
     /// What `holds` answers. The searches that are there stay for the next minion, also after want of memory, and none is made
-    /// for a pattern that has one. After an answer each pattern that was asked has its search.
+    /// for a pattern that has one. After an answer each pattern that was asked has its search, and no other search was made.
     pub fn holds_with<'m>(
         &'m self,
         searches: &mut Searches<'m>,
@@ -84,7 +84,7 @@ impl Matcher {
     ) -> Result<bool, AllocError>
         ensures value { IfOk result (λ b. b ≡ holds self.now id.now grains.now pillar.now) }
         ensures searches { Keeps (patterns self.now) searches.old searches.new }
-        ensures asked { OnOk result (HasSearches id.now grains.now pillar.now self.now searches.new) }
+        ensures asked { OnOk result (HasSearches id.now grains.now pillar.now self.now searches.old searches.new) }
         ensures memory { IsTrue (is_by_id self.now) → IsOk result }
     {
         holds(

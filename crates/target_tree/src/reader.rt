@@ -9,6 +9,7 @@ use crate::token::Token;
 use crate::{Target, TargetFault};
 use sqlite_items::Boxed;
 use std::alloc::{AllocError, Global};
+use std::mem;
 
 /// How many words `not` and `(` stood open where a parenthesis or a text began, and how many do now.
 #[derive(Clone, Copy)]
@@ -119,31 +120,13 @@ impl Reader {
     fn mend(self, alloc: Global, tree: Boxed<Target>) -> Result<Reader, AllocError>
         ensures { IfOk result (λ r. r ≡ mended tree self) }
     {
-        let Reader {
-            last: _,
-            part,
-            parts,
-            at,
-            patterns,
-        } = self;
-        let Part {
-            left_or,
-            left_and,
-            nest,
-        } = part;
+        let mut reader = self;
+        let nest = reader.part.nest;
         let tree = negated(alloc, tree, nest)?;
-        let tree = both(alloc, left_and, tree)?;
-        Ok(Reader {
-            last: Some(tree),
-            part: Part {
-                left_or,
-                left_and: None,
-                nest: fresh_nest(nest.around),
-            },
-            parts,
-            at,
-            patterns,
-        })
+        let tree = both(alloc, reader.part.left_and.take(), tree)?;
+        reader.last = Some(tree);
+        reader.part.nest = fresh_nest(nest.around);
+        Ok(reader)
     }
 }
 
@@ -181,30 +164,20 @@ impl Reader {
         requires { self.at < most_words }
         ensures { GivesTree result (machine_operand no_group Token.OpenWord self) }
     {
-        let Reader {
-            last,
-            part,
-            parts,
-            at,
-            patterns,
-        } = self;
-        if part.nest.deep >= MOST_OPEN {
+        let mut reader = self;
+        let deep = reader.part.nest.deep;
+        if deep >= MOST_OPEN {
             return Err(TargetFault::TooDeep);
         }
         let inner = Part {
             left_or: None,
             left_and: None,
-            nest: fresh_nest(part.nest.deep + 1),
+            nest: fresh_nest(deep + 1),
         };
-        let mut parts = parts;
-        parts.push(part)?;
-        Ok(Reader {
-            last,
-            part: inner,
-            parts,
-            at: at + 1,
-            patterns,
-        })
+        let outer = mem::replace(&mut reader.part, inner);
+        reader.parts.push(outer)?;
+        reader.at += 1;
+        Ok(reader)
     }
 
     fn leaf(self, alloc: Global, tree: Boxed<Target>) -> Result<Reader, TargetFault>
@@ -252,89 +225,37 @@ impl Reader {
         requires { self.at < most_words }
         ensures { GivesTree result (machine_operator last Token.AndWord self) }
     {
-        let Reader {
-            last: _,
-            part,
-            parts,
-            at,
-            patterns,
-        } = self;
-        let Part {
-            left_or,
-            left_and: _,
-            nest,
-        } = part;
-        Ok(Reader {
-            last: None,
-            part: Part {
-                left_or,
-                left_and: Some(last),
-                nest,
-            },
-            parts,
-            at: at + 1,
-            patterns,
-        })
+        let mut reader = self;
+        reader.last = None;
+        reader.part.left_and = Some(last);
+        reader.at += 1;
+        Ok(reader)
     }
 
     fn after_or(self, alloc: Global, last: Boxed<Target>) -> Result<Reader, TargetFault>
         requires { self.at < most_words }
         ensures { GivesTree result (machine_operator last Token.OrWord self) }
     {
-        let Reader {
-            last: _,
-            part,
-            parts,
-            at,
-            patterns,
-        } = self;
-        let Part {
-            left_or,
-            left_and: _,
-            nest,
-        } = part;
-        let tree = either(alloc, left_or, last)?;
-        Ok(Reader {
-            last: None,
-            part: Part {
-                left_or: Some(tree),
-                left_and: None,
-                nest,
-            },
-            parts,
-            at: at + 1,
-            patterns,
-        })
+        let mut reader = self;
+        let tree = either(alloc, reader.part.left_or.take(), last)?;
+        reader.last = None;
+        reader.part.left_or = Some(tree);
+        reader.part.left_and = None;
+        reader.at += 1;
+        Ok(reader)
     }
 
     fn close(self, alloc: Global, last: Boxed<Target>) -> Result<Reader, TargetFault>
         requires { self.at < most_words }
         ensures { GivesTree result (machine_closing last self.parts self) }
     {
-        let Reader {
-            last: _,
-            part,
-            parts,
-            at,
-            patterns,
-        } = self;
-        let mut parts = parts;
-        match parts.pop() {
+        let mut reader = self;
+        let at = reader.at;
+        match reader.parts.pop() {
             None => Err(TargetFault::Word { at }),
             Some(outer) => {
-                let Part {
-                    left_or,
-                    left_and: _,
-                    nest: _,
-                } = part;
-                let tree = either(alloc, left_or, last)?;
-                let reader = Reader {
-                    last: None,
-                    part: outer,
-                    parts,
-                    at,
-                    patterns,
-                };
+                let tree = either(alloc, reader.part.left_or.take(), last)?;
+                reader.part = outer;
                 reader.leaf(alloc, tree)
             }
         }
@@ -358,26 +279,19 @@ impl Reader {
     pub fn end(self, alloc: Global) -> Result<Ended, TargetFault>
         ensures { GivesTree result (machine_end self) }
     {
-        let Reader {
-            last,
-            part,
-            parts,
-            at,
-            patterns,
-        } = self;
-        let Some(last) = last else {
-            return Err(TargetFault::Word { at });
+        let mut reader = self;
+        let Some(last) = reader.last.take() else {
+            return Err(TargetFault::Word { at: reader.at });
         };
-        if !parts.is_empty() {
+        if !reader.parts.is_empty() {
             return Err(TargetFault::Unclosed);
         }
-        let Part {
-            left_or,
-            left_and: _,
-            nest: _,
-        } = part;
-        let tree = either(alloc, left_or, last)?;
-        Ok(Ended { tree, at, patterns })
+        let tree = either(alloc, reader.part.left_or.take(), last)?;
+        Ok(Ended {
+            tree,
+            at: reader.at,
+            patterns: reader.patterns,
+        })
     }
 
     /// After a nodegroup's text.

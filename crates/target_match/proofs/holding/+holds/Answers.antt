@@ -178,7 +178,7 @@ pub returns-in-IdGlob-clause-asked : goal.returns-in-IdGlob-clause-asked
 returns-in-IdGlob-clause-asked t c = A.id_glob c.args.id.now c.args.grains.now c.args.pillar.now c.args.ready.now c.in-IdGlob.text _ c.in-IdGlob.is
 
 pub returns-in-IdPcre-clause-asked : goal.returns-in-IdPcre-clause-asked
-returns-in-IdPcre-clause-asked t c = A.on_ok c.holds.result (A.id_pattern c.args.id.now c.args.grains.now c.args.pillar.now c.args.ready.now c.in-IdPcre.pattern _ c.in-IdPcre.is) c.holds.ensures.asked
+returns-in-IdPcre-clause-asked t c = A.on_ok c.holds.result (A.id_pattern c.args.id.now c.args.grains.now c.args.pillar.now c.args.ready.now c.in-IdPcre.pattern _ _ c.in-IdPcre.is c.holds.ensures.searches) c.holds.ensures.asked
 
 pub returns-in-IdList-clause-asked : goal.returns-in-IdList-clause-asked
 returns-in-IdList-clause-asked t c = A.id_list c.args.id.now c.args.grains.now c.args.pillar.now c.args.ready.now c.in-IdList.ids _ c.in-IdList.is
@@ -187,35 +187,35 @@ pub returns-in-GrainGlob-clause-asked : goal.returns-in-GrainGlob-clause-asked
 returns-in-GrainGlob-clause-asked t c = A.on_any c.pairs_meet.result (A.grain_glob c.args.id.now c.args.grains.now c.args.pillar.now c.args.ready.now c.in-GrainGlob.text _ c.in-GrainGlob.is)
 
 pub returns-in-GrainPcre-clause-asked : goal.returns-in-GrainPcre-clause-asked
-returns-in-GrainPcre-clause-asked t c = A.on_ok c.holds-in-GrainPcre.result (A.grain_pattern c.args.id.now c.args.grains.now c.args.pillar.now c.args.ready.now c.in-GrainPcre.pattern _ c.in-GrainPcre.is) c.holds-in-GrainPcre.ensures.asked
+returns-in-GrainPcre-clause-asked t c = A.on_ok c.holds-in-GrainPcre.result (A.grain_pattern c.args.id.now c.args.grains.now c.args.pillar.now c.args.ready.now c.in-GrainPcre.pattern _ _ c.in-GrainPcre.is c.holds-in-GrainPcre.ensures.searches) c.holds-in-GrainPcre.ensures.asked
 
 pub returns-in-PillarGlob-clause-asked : goal.returns-in-PillarGlob-clause-asked
 returns-in-PillarGlob-clause-asked t c = A.on_any c.pairs_meet-in-PillarGlob.result (A.pillar_glob c.args.id.now c.args.grains.now c.args.pillar.now c.args.ready.now c.in-PillarGlob.text _ c.in-PillarGlob.is)
 
 pub returns-in-PillarPcre-clause-asked : goal.returns-in-PillarPcre-clause-asked
-returns-in-PillarPcre-clause-asked t c = A.on_ok c.holds-in-PillarPcre.result (A.pillar_pattern c.args.id.now c.args.grains.now c.args.pillar.now c.args.ready.now c.in-PillarPcre.pattern _ c.in-PillarPcre.is) c.holds-in-PillarPcre.ensures.asked
+returns-in-PillarPcre-clause-asked t c = A.on_ok c.holds-in-PillarPcre.result (A.pillar_pattern c.args.id.now c.args.grains.now c.args.pillar.now c.args.ready.now c.in-PillarPcre.pattern _ _ c.in-PillarPcre.is c.holds-in-PillarPcre.ensures.searches) c.holds-in-PillarPcre.ensures.asked
 
 pub returns-in_ok-holds-in-Not-clause-asked : goal.returns-in_ok-holds-in-Not-clause-asked
-returns-in_ok-holds-in-Not-clause-asked t c = A.not_tree c.args.id.now c.args.grains.now c.args.pillar.now c.args.ready.now c.in-Not.one c.get.result.now _ c.in-Not.is c.get.ensures c.in_ok-holds-in-Not.ensures.asked
+returns-in_ok-holds-in-Not-clause-asked t c = A.not_tree c.args.id.now c.args.grains.now c.args.pillar.now c.args.ready.now c.in-Not.one c.get.result.now _ _ c.in-Not.is c.get.ensures c.in_ok-holds-in-Not.ensures.asked
 
 pub returns-then-not-branch-clause-asked : goal.returns-then-not-branch-clause-asked
 returns-then-not-branch-clause-asked t c =
-    A.and_left c.args.id.now c.args.grains.now c.args.pillar.now c.args.ready.now c.in-And.left c.in-And.right c.get-in-And.result.now _ _ c.in-And.is c.get-in-And.ensures c.in_ok-holds-in-And.ensures.ok c.if-not-branch.true c.in_ok-holds-in-And.ensures.asked
+    A.and_left c.args.id.now c.args.grains.now c.args.pillar.now c.args.ready.now c.in-And.left c.in-And.right c.get-in-And.result.now _ _ _ c.in-And.is c.get-in-And.ensures c.in_ok-holds-in-And.ensures.ok c.if-not-branch.true c.in_ok-holds-in-And.ensures.asked
 
 pub returns-else-not-branch-clause-asked : goal.returns-else-not-branch-clause-asked
 returns-else-not-branch-clause-asked t c =
     A.on_ok c.holds-in-And-2.result
     (A.and_both c.args.id.now c.args.grains.now c.args.pillar.now c.args.ready.now c.in-And.left c.in-And.right c.get-in-And.result.now c.get-in-And-2.result.now _ _ _ _ c.in-And.is c.get-in-And.ensures c.get-in-And-2.ensures
-    c.in_ok-holds-in-And.ensures.ok c.if-not-branch.false c.holds-in-And-2.ensures.searches c.in_ok-holds-in-And.ensures.asked)
+    c.in_ok-holds-in-And.ensures.ok c.if-not-branch.false c.in_ok-holds-in-And.ensures.asked)
     c.holds-in-And-2.ensures.asked
 
 pub returns-then-branch-clause-asked : goal.returns-then-branch-clause-asked
 returns-then-branch-clause-asked t c =
-    A.or_left c.args.id.now c.args.grains.now c.args.pillar.now c.args.ready.now c.in-Or.left c.in-Or.right c.get-in-Or.result.now _ _ c.in-Or.is c.get-in-Or.ensures c.in_ok-holds-in-Or.ensures.ok c.if-branch.true c.in_ok-holds-in-Or.ensures.asked
+    A.or_left c.args.id.now c.args.grains.now c.args.pillar.now c.args.ready.now c.in-Or.left c.in-Or.right c.get-in-Or.result.now _ _ _ c.in-Or.is c.get-in-Or.ensures c.in_ok-holds-in-Or.ensures.ok c.if-branch.true c.in_ok-holds-in-Or.ensures.asked
 
 pub returns-else-branch-clause-asked : goal.returns-else-branch-clause-asked
 returns-else-branch-clause-asked t c =
     A.on_ok c.holds-in-Or-2.result
     (A.or_both c.args.id.now c.args.grains.now c.args.pillar.now c.args.ready.now c.in-Or.left c.in-Or.right c.get-in-Or.result.now c.get-in-Or-2.result.now _ _ _ _ c.in-Or.is c.get-in-Or.ensures c.get-in-Or-2.ensures
-    c.in_ok-holds-in-Or.ensures.ok c.if-branch.false c.holds-in-Or-2.ensures.searches c.in_ok-holds-in-Or.ensures.asked)
+    c.in_ok-holds-in-Or.ensures.ok c.if-branch.false c.in_ok-holds-in-Or.ensures.asked)
     c.holds-in-Or-2.ensures.asked
