@@ -4,7 +4,8 @@ use Rattle.salt_value.specs.declared.outcome.Outcome.{Outcome}
 use Rattle.exec_functions.specs.Exec.{run, with_change}
 use Rattle.salt_wire.specs.declared.message.Job.{Job}
 use Rattle.salt_value.specs.declared.outcome.Row.{Row}
-use Rattle.minion_core.specs.Flat.{row_of, does_hold, flat_up, return_of}
+pub use Rattle.minion_core.specs.Flat.{row_of}
+use Rattle.minion_core.specs.Flat.{does_hold, flat_up, return_of}
 use Rattle.flat_fleet.specs.declared.report.FlatMinion.{FlatMinion}
 use Rattle.flat_fleet.specs.declared.report.FlatReport.{FlatReport}
 
