@@ -12,6 +12,9 @@ pub fn json(alloc: Global, rest: &str) -> Result<String, AllocError> {
 }
 
 fn both(alloc: Global, value: &Value) -> Result<String, AllocError> {
+    if !value.fits() {
+        return String::from_str(alloc, "past the limits");
+    }
     let mut out = Vec::new(alloc);
     value.write(&mut out)?;
     let text = to_text(alloc, value)?;
