@@ -19,8 +19,9 @@ use Rattle.salt_replay.specs.Replay.{DoesSpell}
 abbrev pub network_before : Script → ℕ → Network
 network_before s i = network_after (fleet_of s) (take i s.turns)
 
--- what a report may print of the job with this jid, where the top has these jobs, and that one as number seq: rows of the report of the
--- flat fleet, which runs these jobs in order, each minion at most once; and the line of an unknown job where the top doesn't have it
+-- what a report may print of the job with this jid, where the top has these jobs, and that one as number seq: its function, and rows of
+-- the report of the flat fleet, which runs these jobs in order, each minion at most once; and the line of an unknown job where the top
+-- doesn't have it
 abbrev pub IsReportOf : Tree → List Job → ℕ → Option ℕ → List ℕ → Type 0
 IsReportOf t jobs jid None piece = piece ≡ unknown_text jid
 IsReportOf t jobs jid (Some seq) piece =
