@@ -21,7 +21,8 @@ use crate::strays::{
     first_cause, is_below, is_first, is_here, is_later, is_neighbour, last_jid, names_held,
     place_of, return_of, seq_of, stray_other,
 };
-use crate::{Counts, Glob, PendFault, PublishFault, Stray, TakeFault};
+use crate::counts::Counts;
+use crate::{Glob, PendFault, PublishFault, Stray, TakeFault};
 use fleet_config::{Fleet, MOST_JOBS};
 use indexmap::IndexMap;
 use minion_core::{MinionCore, nothing_held};

@@ -12,5 +12,4 @@ mod text;
 mod world;
 
 pub use fleet_turns::Turn;
-pub use packet::Packet;
 pub use world::{StepFault, World, tell};

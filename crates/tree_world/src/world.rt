@@ -8,7 +8,7 @@ ghost use Rattle.tree_world.specs.Network as network;
 ghost use Rattle.salt_outside.specs.Causes.{CountsFaults};
 ghost use Rattle.salt_outside.specs.Streams.{appended, IsPart};
 
-use crate::Packet;
+use crate::packet::Packet;
 use crate::report::{rows_of, sort_by_id};
 use crate::text::{missing_text, number_of, packet_text, publish_text, rows_text, unknown_text};
 use fleet_config::Fleet;
