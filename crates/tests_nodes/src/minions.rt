@@ -1,4 +1,7 @@
 //! Minions, and the flat fleet that every report is measured by.
+ghost use Rattle.minion_core.specs.Limits.{DeedFits};
+ghost use Rattle.salt_wire.specs.Limits.{JobFits};
+
 use crate::made::{FAILED, id, job};
 use exec_functions::Holdings;
 use flat_fleet::{FlatMinion, FlatReport, first_jobs_decide, flat_reports};
@@ -22,7 +25,9 @@ fn stored(held: &Holdings) -> i64 {
 }
 
 // A minion takes a record in, of which there is room for a thousand.
-fn take_in(rt: &impl Abort, minion: &mut MinionCore, deed: &Deed) -> u32 {
+fn take_in(rt: &impl Abort, minion: &mut MinionCore, deed: &Deed) -> u32
+    requires { DeedFits deed.now }
+{
     if minion.jobs() > 1000 || minion.boots() > 1000 {
         panic!(rt; "{FAILED}");
     }
@@ -45,13 +50,17 @@ fn a_minion_keeps_what_its_jobs_change(rt: HostRuntime) {
 }
 
 // A start, and the same job twice.
-fn run_all(rt: &impl Abort, minion: &mut MinionCore, me: &MinionId, count: &Job) {
+fn run_all(rt: &impl Abort, minion: &mut MinionCore, me: &MinionId, count: &Job)
+    requires { JobFits count.now }
+{
     take_in(rt, minion, &Deed::Boot);
     run_one(rt, minion, me, count);
     run_one(rt, minion, me, count);
 }
 
-fn run_one(rt: &impl Abort, minion: &mut MinionCore, me: &MinionId, count: &Job) {
+fn run_one(rt: &impl Abort, minion: &mut MinionCore, me: &MinionId, count: &Job)
+    requires { JobFits count.now }
+{
     match minion.run(me, count) {
         Ok(deed) => {
             take_in(rt, minion, &deed);
