@@ -1,10 +1,8 @@
 -- What a job makes is within the limits of messages.
-use Rattle.std.proofs.Common.{◌≡◌, ◌≢◌, ◌∙◌, ℕ, ◌+◌, ◌<◌, ◌≤◌, ◌^◌, refl, ap, subst, sym, Bool, true, false, List, [], ◌∷◌, ◌++◌, length, map, All, Option, None, Some, arith}
+use Rattle.std.proofs.Common.{◌≡◌, ℕ, ◌+◌, ◌<◌, ◌≤◌, ◌^◌, List, [], ◌∷◌, length, map, All, Option, None, Some, arith}
 use Rattle.std.proofs.lemmas.List.{length-append, length-map}
 use Rattle.std.proofs.lemmas.List.Elements.{All-nil, All-cons, All-head, All-tail, All-append}
-use Rattle.salt_value.specs.WellFormed.{ValueFits}
 use Rattle.salt_value.specs.declared.value.Value.{Value}
-use Rattle.salt_value.specs.declared.outcome.Outcome.{Outcome}
 use Rattle.exec_functions.specs.declared.holdings.Holdings.{Holdings}
 use Rattle.exec_functions.specs.declared.holdings.Change.{Change}
 use Rattle.exec_functions.specs.declared.holdings.Change.TheVariants as c
@@ -13,7 +11,6 @@ use Rattle.exec_functions.specs.declared.holdings.Note.TheVariants as note
 use Rattle.exec_functions.specs.declared.holdings.Ran.{Ran}
 use Rattle.exec_functions.specs.Exec.{run, with_change}
 use Rattle.exec_functions.specs.Limits.{AreWithin, IsSendable, ChangeFits, NoteFits}
-use Rattle.salt_wire.specs.declared.message.Entry.{Entry}
 use Rattle.salt_wire.specs.declared.message.Entry.TheVariants.{Return}
 use Rattle.salt_wire.specs.declared.deed.Changed.{Changed}
 use Rattle.salt_wire.specs.Limits.{EntryFits}

@@ -1,23 +1,21 @@
 -- A function makes at most one note.
-use Rattle.std.proofs.Common.{◌≡◌, ℕ, ◌+◌, ◌≤◌, Bool, true, false, ◌&&◌, refl, List, [], ◌∷◌, ◌++◌, length, map, Option, None, Some, arith, if◌then◌else◌}
-use Rattle.std.specs.Prelude.{ℤ, ◌+ℤ◌, codes, nat_le}
+use Rattle.std.proofs.Common.{ℕ, ◌≤◌, Bool, true, false, ◌&&◌, List, [], ◌∷◌, length, Option, None, Some, arith, if◌then◌else◌}
+use Rattle.std.specs.Prelude.{ℤ, ◌+ℤ◌, codes}
 use Rattle.salt_value.specs.declared.value.Value.{Value}
-use Rattle.salt_value.specs.declared.value.Value.TheVariants as v
 use Rattle.salt_value.specs.WellFormed.{is_int}
 use Rattle.salt_value.specs.Keys.{under}
 use Rattle.exec_functions.specs.declared.function.Function.{Function}
 use Rattle.exec_functions.specs.declared.function.Function.TheVariants.{Asks, GrainsSetval, DataUpdate, DataPop, DataCas, DataIncr, MineSend, MineDelete, MineFlush, EventSend}
 use Rattle.exec_functions.specs.declared.holdings.Holdings.{Holdings}
 use Rattle.exec_functions.specs.declared.holdings.Change.{Change}
-use Rattle.exec_functions.specs.declared.holdings.Change.TheVariants.{Nothing}
 use Rattle.exec_functions.specs.declared.holdings.Ran.{Ran}
 use Rattle.salt_value.specs.FitTest.{fits}
 use Rattle.exec_functions.specs.Functions.{function_named}
 use Rattle.exec_functions.specs.Arguments.{key_and_rest}
 use Rattle.exec_functions.specs.Results.{bad_arguments, refusal, is_stored}
 use Rattle.exec_functions.specs.Queries.{query_value, query_result}
-use Rattle.exec_functions.specs.ByKey.{grains_setval, data_update, pop_result, data_pop, data_cas, step_of, stored_number, incr_result, sum_result, data_incr, mine_result, mine_send, mine_delete, is_grain_key, is_word, event_result, event_send, result_by_key}
-use Rattle.exec_functions.specs.Exec.{mine_flush, result_with_key, result_of, change_fits, result_within, unknown_function, run_of, run}
+use Rattle.exec_functions.specs.ByKey.{grains_setval, data_update, pop_result, data_cas, step_of, stored_number, incr_result, mine_result, mine_send, mine_delete, is_grain_key, is_word, event_result, result_by_key}
+use Rattle.exec_functions.specs.Exec.{mine_flush, result_with_key, result_of, change_fits, result_within, run_of, run}
 
 abbrev Few : Ran → Type 0
 Few made = length made.notes ≤ 1

@@ -1,8 +1,7 @@
 -- What is told of the record that a minion makes of a job. Nothing else of it is known here: neither matching nor functions.
-use Rattle.std.proofs.Common.{◌≡◌, ℕ, ◌+◌, ◌<◌, ◌∙◌, sym, ap, refl, inl, inr, Bool, true, false, List, [], ◌∷◌, ◌++◌, length, arith}
-use Rattle.std.specs.Prelude.{Option, None, Some, not, map, nat_lt, ◌==◌, if◌then◌else◌}
+use Rattle.std.proofs.Common.{◌≡◌, ℕ, ◌+◌, ◌<◌, ◌∙◌, ap, refl, inl, inr, Bool, true, false, List, [], ◌∷◌, ◌++◌, arith}
+use Rattle.std.specs.Prelude.{Option, None, map, if◌then◌else◌}
 use Rattle.std.specs.List.{AllByRecursion}
-use Rattle.std.proofs.lemmas.Bool.{lt-ltb}
 use Rattle.std.proofs.lemmas.Bool.Decides.{eqb_tells}
 use Rattle.salt_value.specs.declared.outcome.Outcome.{Outcome}
 use Rattle.exec_functions.specs.declared.holdings.Holdings.{Holdings}
@@ -16,7 +15,7 @@ use Rattle.salt_wire.specs.declared.message.Entry.TheVariants.{Return, Fired, St
 use Rattle.salt_wire.specs.declared.deed.Changed.{Changed}
 use Rattle.salt_wire.specs.declared.deed.Deed.{Deed}
 use Rattle.salt_wire.specs.declared.deed.Deed.TheVariants.{Done}
-use Rattle.minion_core.specs.Flat.{does_hold, entry_of, entries_by, done_by, done, held_after, entries_in, flat_up, acts, is_start, return_of}
+use Rattle.minion_core.specs.Flat.{does_hold, entry_of, done_by, done, held_after, entries_in, flat_up, acts, return_of}
 
 -- an entry of job number seq that is no start
 abbrev pub IsOwn : ℕ → Entry → Type 0

@@ -1,9 +1,9 @@
 -- Leaves without a pattern.
-use Rattle.std.proofs.Common.{◌≡◌, ℕ, zero, suc, ◌<◌, Bool, true, false, ◌&&◌, refl, List, [], ◌∷◌, ◌++◌, length, Option, None, Some, slice_index_or, arith}
+use Rattle.std.proofs.Common.{◌≡◌, ℕ, zero, suc, true, ◌&&◌, refl, List, [], ◌∷◌, ◌++◌, Option, None, Some, slice_index_or}
 use Rattle.std.specs.Prelude.{is_none}
 use Rattle.std.specs.List.{list_all}
 use Rattle.std.proofs.lemmas.List.Folds.{list_all-append}
-use Rattle.target_match.specs.Holds.{IsReadableLeaf, IsBadAt, IsBigAt, IsToldAs}
+use Rattle.target_match.specs.Holds.{IsBadAt, IsBigAt, IsToldAs}
 
 pub none_in_both : (xs ys : List (Option (List ℕ))) → list_all is_none (xs ++ ys) ≡ (list_all is_none xs && list_all is_none ys)
 none_in_both xs ys = list_all-append is_none xs ys

@@ -1,5 +1,5 @@
 -- What a minion records and keeps is within the limits of messages, and where there is room for a record.
-use Rattle.std.specs.Prelude.{ℕ, ◌<◌, ◌+◌, ◌^◌, List, Option, None, Some, All}
+use Rattle.std.specs.Prelude.{◌<◌, ◌+◌, ◌^◌, Option, None, Some, All}
 use Rattle.salt_value.specs.WellFormed.{ValueFits}
 use Rattle.salt_value.specs.declared.value.Value.TheVariants as v
 use Rattle.exec_functions.specs.Limits.{AreWithin}
