@@ -148,13 +148,20 @@ fn is_counted(message: &Message) -> bool
     }
 }
 
-fn reply_of(answer: Result<Option<Message>, TakeFault>) -> Reply {
+// What a message replies.
+fn reply_in(message: &Message) -> Reply {
+    match message {
+        Message::Have { jobs } => Reply::Jobs(*jobs),
+        Message::UpHave { n, .. } => Reply::Entries(*n),
+        _ => Reply::Other,
+    }
+}
+
+fn reply_of(answer: &Result<Option<Message>, TakeFault>) -> Reply {
     match answer {
-        Ok(Some(Message::Have { jobs })) => Reply::Jobs(jobs),
-        Ok(Some(Message::UpHave { n, .. })) => Reply::Entries(n),
-        Ok(Some(_)) => Reply::Other,
+        Ok(Some(message)) => reply_in(message),
         Ok(None) => Reply::Nothing,
-        Err(TakeFault::Stray { cause }) => Reply::Refused(cause),
+        Err(TakeFault::Stray { cause }) => Reply::Refused(*cause),
         Err(TakeFault::NoMemory) => Reply::NoMemory,
     }
 }
@@ -165,7 +172,8 @@ fn take(node: &mut Node, fleet: &Fleet, me: u32, from: u32, message: &Message) -
     if me >= fleet.count() || !is_counted(message) {
         return Reply::Other;
     }
-    reply_of(node.take(fleet, NodeId::new(me), NodeId::new(from), message))
+    let answer = node.take(fleet, NodeId::new(me), NodeId::new(from), message);
+    reply_of(&answer)
 }
 
 /// Each message in order, and what the node at the place `me` answers.
