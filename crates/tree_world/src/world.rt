@@ -1,5 +1,5 @@
 //! The network of a fleet, and its turns.
-ghost use Rattle.std.specs.Prelude.{codes, ◌≡◌, ◌<◌, ◌++◌, ◌^◌, List, All, slice_set, length, map, take, true, IfOk, IfSome, OnOk, IsErrOf};
+ghost use Rattle.std.specs.Prelude.{codes, ◌≡◌, ◌≢◌, ◌<◌, ◌++◌, ◌^◌, List, All, slice_set, length, map, take, true, IfOk, IfErr, IfSome, OnOk, OnErr, IsErrOf, Ok, Err};
 ghost use Rattle.node_core.specs.Node.{first_node, pending, is_neighbour, IsCounted};
 ghost use Rattle.salt_wire.specs.Limits.{Within};
 ghost use Rattle.tree_world.specs.Network.{node_at, reception, with_reply, replied};
@@ -10,7 +10,9 @@ ghost use Rattle.salt_outside.specs.Streams.{appended, IsPart};
 
 use crate::packet::Packet;
 use crate::report::{rows_of, sort_by_id};
-use crate::text::{missing_text, number_of, packet_text, publish_text, rows_text, unknown_text};
+use crate::text::{
+    missing_text, number_of, packet_text, published_text, refused_text, rows_text, unknown_text,
+};
 use fleet_config::Fleet;
 use fleet_turns::Turn;
 use node_core::{Glob, Node, PendFault, PublishFault, TakeFault};
@@ -36,7 +38,7 @@ pub struct World {
 }
 
 impl Model for World {
-    ghost use Rattle.std.specs.Prelude.{codes, ◌≡◌, ◌<◌, All, length};
+    ghost use Rattle.std.specs.Prelude.{◌≡◌, ◌<◌, All, length};
     ghost use Rattle.fleet_config.specs.Tree.{minions};
     ghost use Rattle.tree_world.specs.Network.{System};
 
@@ -44,9 +46,9 @@ impl Model for World {
 
     ghost use Rattle.salt_value.specs.contracts.value.Value as value;
     ghost use Rattle.target_tree.specs.contracts.target.Target as target;
-    ghost use Rattle.std.specs.Coded.{codes as codings};
+    ghost use Rattle.std.specs.Coded.{codes};
 
-    ghost coded = { Prim.hlevel (codings, value.the_row.coded, target.the_row.coded) };
+    ghost coded = { Prim.hlevel (codes, value.the_row.coded, target.the_row.coded) };
 
     ghost use Rattle.tree_world.specs.Report as report;
 
@@ -139,30 +141,27 @@ impl World {
         ensures fleet { self.new.fleet ≡ self.old.fleet }
         ensures text { IfOk result (λ text. text.items ≡ printed self.old.fleet (Turn.Publish moment tgt.now) self.old.network) }
     {
-        let outcome = self.publish_at_top(moment, tgt)?;
-        publish_text(self.alloc, &outcome)
+        match self.publish_at_top(moment, tgt) {
+            Ok(jid) => published_text(self.alloc, jid),
+            Err(PublishFault::JobsFull { .. }) => refused_text(self.alloc, b"JobsFull"),
+            Err(PublishFault::JidEnd) => refused_text(self.alloc, b"JidEnd"),
+            Err(PublishFault::NoMemory) => Err(AllocError),
+        }
     }
 
     // The record of a publication, or why it is refused.
-    fn publish_at_top(
-        &mut self,
-        moment: u64,
-        tgt: &Glob,
-    ) -> Result<Result<Jid, PublishFault>, AllocError>
-        ensures outcome { IfOk result (λ outcome. outcome ≡ publication self.old.fleet.max_jobs moment (top_jobs self.old.network)) }
-        ensures refusal { IfOk result (λ outcome. IsErrOf outcome PublishFault.NoMemory → ⊥) }
-        ensures state { IfOk result (λ outcome. self.new.network ≡ published tgt.now outcome self.old.network) }
+    fn publish_at_top(&mut self, moment: u64, tgt: &Glob) -> Result<Jid, PublishFault>
+        ensures ok { IfOk result (λ jid. publication self.old.fleet.max_jobs moment (top_jobs self.old.network) ≡ Ok jid) }
+        ensures state { IfOk result (λ jid. self.new.network ≡ published tgt.now (Ok jid) self.old.network) }
+        ensures err { OnErr result (self.new.network ≡ self.old.network) }
+        ensures fault { IfErr result (λ fault. fault ≢ PublishFault.NoMemory → publication self.old.fleet.max_jobs moment (top_jobs self.old.network) ≡ Err fault) }
         ensures fleet { self.new.fleet ≡ self.old.fleet }
     {
         let Some(top) = self.nodes.first_mut() else {
             unreachable!();
         };
         let fun = ping(self.alloc)?;
-        match top.publish(&self.fleet, moment, tgt, &fun, &[]) {
-            Ok(jid) => Ok(Ok(jid)),
-            Err(PublishFault::NoMemory) => Err(AllocError),
-            Err(cause) => Ok(Err(cause)),
-        }
+        top.publish(&self.fleet, moment, tgt, &fun, &[])
     }
 
     // The lines of a report.
