@@ -14,6 +14,7 @@ ghost use Rattle.node_core.specs.declared.faults.PendFault.TheVariants as pend;
 ghost use Rattle.node_core.specs.declared.faults.PublishFault.TheVariants as publish;
 ghost use Rattle.salt_wire.specs.declared.message.Message.TheVariants as m;
 
+use crate::counts::Counts;
 use crate::logs::Logs;
 use crate::recording::{push_both, push_run, push_up};
 use crate::sending::{push_entries, push_pubs};
@@ -21,7 +22,6 @@ use crate::strays::{
     first_cause, is_below, is_first, is_here, is_later, is_neighbour, last_jid, names_held,
     place_of, return_of, seq_of, stray_other,
 };
-use crate::counts::Counts;
 use crate::{Glob, PendFault, PublishFault, Stray, TakeFault};
 use fleet_config::{Fleet, MOST_JOBS};
 use indexmap::IndexMap;
