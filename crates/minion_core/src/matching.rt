@@ -58,8 +58,8 @@ pub fn does_hold(
 ) -> Result<bool, AllocError>
     ensures { IfOk result (λ b. b ≡ spec.does_hold job.now id.now held.now) }
 {
-    if has_no_pattern(&job.target) {
-        holds_now(alloc, &job.target, id, held)
+    if has_no_pattern(job.target.get()) {
+        holds_now(alloc, job.target.get(), id, held)
     } else {
         Ok(false)
     }

@@ -29,6 +29,7 @@ use minion_core::{MinionCore, nothing_held};
 use salt_value::{Jid, MinionId, NodeId, Outcome, Value, Word, copy_items};
 use salt_wire::{Deed, Entry, Job, Message};
 use std::alloc::{AllocError, Global};
+use sqlite_items::Boxed;
 use std::marker::Model;
 use target_tree::{Kind, Target};
 
@@ -545,7 +546,7 @@ fn glob_job(
         jid,
         kind: Kind::Glob,
         tgt: tgt.text().copy()?,
-        target: Target::IdGlob(tgt.text().copy()?),
+        target: Boxed::new(alloc, Target::IdGlob(tgt.text().copy()?))?,
         fun: fun.copy()?,
         args: copy_items(alloc, args)?,
     })

@@ -34,7 +34,7 @@ fn told_again(alloc: Global, message: &Message, body: &[u8]) -> Result<String, A
 }
 
 fn job_text(alloc: Global, seq: u32, job: &Job) -> Result<String, AllocError> {
-    let tree = tree_text(alloc, &job.target)?;
+    let tree = tree_text(alloc, job.target.get())?;
     format!(in alloc;
         "pub {seq} {} {} {} {tree}{} {}",
         job.jid.micros(),

@@ -4,6 +4,7 @@ ghost use Rattle.salt_wire.specs.declared.message.Entry.TheVariants.{Return, Fir
 
 use crate::message::{Entry, Job};
 use salt_value::{Event, Fields, Outcome, copy_items};
+use sqlite_items::Boxed;
 use std::alloc::{AllocError, Global};
 
 impl Job {
@@ -15,7 +16,7 @@ impl Job {
             jid: self.jid,
             kind: self.kind,
             tgt: self.tgt.copy()?,
-            target: self.target.copy(alloc)?,
+            target: Boxed::new(alloc, self.target.get().copy(alloc)?)?,
             fun: self.fun.copy()?,
             args: copy_items(alloc, self.args.as_slice())?,
         })

@@ -1,5 +1,6 @@
 //! Jobs, entries and messages.
 use salt_value::{Event, Fields, Items, Jid, MinionId, Outcome, Text, Word};
+use sqlite_items::Boxed;
 use target_tree::{Kind, Target};
 
 /// A job: what is to be run, and on which minions. Its limits are this project's own: `tgt` has at
@@ -12,7 +13,7 @@ pub struct Job {
     /// The target's text.
     pub tgt: Text,
     /// The tree that the text stands for.
-    pub target: Target,
+    pub target: Boxed<Target>,
     /// The function's name.
     pub fun: Word,
     pub args: Items,

@@ -240,9 +240,9 @@ fn node_after(alloc: Global, levels: usize, tag: u8, room: Room, bytes: &[u8]) -
 
 // A whole tree.
 #[tactic(auto, unfolding(crate::specs::Decoding::tree_field))]
-pub fn tree_at(alloc: Global, bytes: &[u8]) -> Parsed<'_, Target>
+pub fn tree_at(alloc: Global, bytes: &[u8]) -> Parsed<'_, Boxed<Target>>
     ensures { Gives NoMemory (λ x. (x.0, x.1.now)) result (spec.tree_field bytes.now) }
 {
-    let (tree, _, rest) = levels_at(alloc, MOST_NODES, Room::whole(bytes), bytes)?;
+    let (tree, _, rest) = part_at(alloc, MOST_NODES, Room::whole(bytes), bytes)?;
     Ok((tree, rest))
 }

@@ -152,7 +152,7 @@ pub fn put_job(out: &mut Vec<u8>, job: &Job) -> Result<(), AllocError>
     put_u64(out, job.jid.micros())?;
     out.push(job.kind.code())?;
     put_text(out, job.tgt.as_bytes())?;
-    put_tree(out, &job.target)?;
+    put_tree(out, job.target.get())?;
     put_call(out, &job.fun, job.args.as_slice())?;
     Ok(())
 }

@@ -9,6 +9,7 @@ use node_core::Glob;
 use salt_value::{Items, Jid, MinionId, NodeId, Text, Value, Word, copy_items};
 use salt_wire::Job;
 use std::alloc::Global;
+use sqlite_items::Boxed;
 use std::process::Abort;
 use target_tree::{Kind, Target};
 
@@ -126,7 +127,8 @@ fn job_for_all(
         jid,
         kind: Kind::Glob,
         tgt: tgt.text().copy().expect(rt, FAILED),
-        target: Target::IdGlob(tgt.text().copy().expect(rt, FAILED)),
+        target: Boxed::new(alloc, Target::IdGlob(tgt.text().copy().expect(rt, FAILED)))
+            .expect(rt, FAILED),
         fun,
         args,
     }
