@@ -1,14 +1,17 @@
 //! One turn.
 use node_core::Glob;
-use salt_value::{Jid, NodeId};
+use salt_value::{Items, Jid, NodeId, Word};
 
 /// One line of a schedule.
-#[derive(Debug, Drop)]
+#[derive(Drop)]
 pub enum Turn {
-    /// Publishes `test.ping` at the top for the minions whose ids match the glob, at a moment in microseconds since 1970-01-01 UTC.
+    /// Publishes a job at the top, a function with its arguments for the minions whose ids match the glob, at a moment in microseconds
+    /// since 1970-01-01 UTC.
     Publish {
         moment: u64,
         tgt: Glob,
+        fun: Word,
+        args: Items,
     },
     /// Appends the first pending messages of a node for its neighbour to the packets. A count over 4,294,967,295 means that number.
     Send {

@@ -46,9 +46,9 @@ most_pattern_bytes = 256
 abbrev pub IsPattern : List ℕ → Type 0
 IsPattern bytes = (0 < length bytes) × (length bytes ≤ most_pattern_bytes) × IsTrue (list_all is_pattern_byte bytes)
 
--- a publication is for a pattern, and no packet is printed
+-- a publication is one of `test.ping` without arguments for a pattern, and no packet is printed
 abbrev pub IsBuilt : Turn → Type 0
-IsBuilt (Publish moment tgt) = IsPattern tgt
+IsBuilt (Publish moment tgt fun args) = IsPattern tgt × (fun ≡ codes "test.ping") × (args ≡ [])
 IsBuilt (Send from to count) = Unit {0}
 IsBuilt (Deliver i) = Unit {0}
 IsBuilt (Report jid) = Unit {0}
@@ -64,7 +64,7 @@ quoted tgt = codes "[\"" ++ (tgt ++ codes "\"]")
 
 -- the line of a turn
 abbrev pub turn_line : FleetConfig → Turn → List ℕ
-turn_line f (Publish moment tgt) = spaced (codes "publish" ∷ decimal moment ∷ codes "glob" ∷ codes "test.ping" ∷ quoted tgt ∷ [])
+turn_line f (Publish moment tgt fun args) = spaced (codes "publish" ∷ decimal moment ∷ codes "glob" ∷ codes "test.ping" ∷ quoted tgt ∷ [])
 turn_line f (Send from to count) = spaced (codes "send" ∷ id_of f.tree from ∷ id_of f.tree to ∷ decimal count ∷ [])
 turn_line f (Deliver i) = spaced (codes "deliver" ∷ decimal i ∷ [])
 turn_line f (Report jid) = spaced (codes "report" ∷ jid_text jid ∷ [])

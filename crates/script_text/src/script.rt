@@ -16,7 +16,7 @@ use thiserror::Error;
 pub const MOST_SCRIPT_BYTES: usize = 16_777_216;
 
 /// A fleet of one top and its minions, and the turns of a schedule.
-#[derive(Debug, Drop)]
+#[derive(Drop)]
 pub struct Script {
     pub top: MinionId,
     /// At most 4,096, with distinct ids.

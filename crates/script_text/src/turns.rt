@@ -1,9 +1,10 @@
 //! The lines of turns.
-ghost use Rattle.std.specs.Prelude.{◌≡◌, ◌++◌, ◌↔◌, ℕ, List, codes, IsTrue, IfOk, IfSome, IfNone};
+ghost use Rattle.std.specs.Prelude.{◌≡◌, [], ◌++◌, ◌↔◌, ℕ, List, codes, IsTrue, IfOk, IfSome, IfNone};
 ghost use Rattle.std.specs.List.{list_all};
 ghost use Rattle.salt_value.specs.Reading.{Decodes};
 ghost use Rattle.salt_value.specs.Jid.{jid_text};
 ghost use Rattle.fleet_config.specs.Tree.{id_of};
+ghost use Rattle.fleet_turns.specs.declared.turn.Turn.TheVariants as kind;
 ghost use Rattle.script_text.specs.Script as spec;
 ghost use Rattle.script_text.specs.Turns as spec_turns;
 ghost use Rattle.script_text.specs.Script.{MayStand, IsPattern, turn_line};
@@ -11,10 +12,11 @@ ghost use Rattle.script_text.specs.Fleet.{fleet_by, tree_by, AreIds};
 ghost use Rattle.script_text.specs.Turns.{target_text, IsPublication, publication_text, IsPlaceIn, node_text, IsSending, sending_text};
 
 use crate::lines::{cut, read_number, strip_back, strip_front};
+use exec_functions::{Function, Query};
 use fleet_turns::Turn;
 use indexmap::IndexSet;
 use node_core::Glob;
-use salt_value::{Jid, MinionId, NodeId, Text};
+use salt_value::{Items, Jid, MinionId, NodeId, Text};
 use std::alloc::{AllocError, Global};
 use std::str;
 
@@ -53,9 +55,21 @@ fn read_publish(
     ensures { IfOk result (Decodes (MayStand (fleet_by ids.now.keys)) (turn_line (fleet_by ids.now.keys)) line.now) }
 {
     match read_publication(alloc, rest)? {
-        Some((moment, tgt)) => Ok(Some(Turn::Publish { moment, tgt })),
+        Some((moment, tgt)) => Ok(Some(ping(alloc, moment, tgt)?)),
         None => Ok(None),
     }
+}
+
+// A publication of `test.ping` without arguments.
+fn ping(alloc: Global, moment: u64, tgt: Glob) -> Result<Turn, AllocError>
+    ensures { IfOk result (λ turn. turn ≡ kind.Publish moment tgt (codes "test.ping") []) }
+{
+    Ok(Turn::Publish {
+        moment,
+        tgt,
+        fun: Function::Asks(Query::TestPing).word(alloc)?,
+        args: Items::new(alloc),
+    })
 }
 
 // `MOMENT glob test.ping ["PATTERN"]`.

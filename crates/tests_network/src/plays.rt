@@ -1,8 +1,12 @@
 //! The turns of a play, and the worlds in which they are performed.
+ghost use Rattle.std.specs.Bool.{OnTrue};
+ghost use Rattle.salt_value.specs.WellFormed.{ValueFits};
+ghost use Rattle.salt_value.specs.declared.value.Value.TheVariants as v;
+
 use fleet_config::{Fleet, FleetNode, Role};
 use node_core::Glob;
 use salt_outside::MemSink;
-use salt_value::{Jid, MinionId, NodeId, Text};
+use salt_value::{Items, Jid, MinionId, NodeId, Text, Value, Word, copy_items};
 use std::alloc::Global;
 use std::process::Abort;
 use tree_world::{StepFault, Turn, World};
@@ -13,7 +17,10 @@ pub const FAILED: &str = "memory, or a right text";
 /// One turn of a play.
 #[derive(Clone, Copy, Debug)]
 pub enum Play {
+    /// `test.ping`, for a glob.
     Publish(u64, &'static str),
+    /// A function of one text, for all minions.
+    Run(u64, &'static str, &'static str),
     Send(u32, u32, u64),
     Deliver(u64),
     Report(&'static str),
@@ -91,16 +98,68 @@ fn report(world: &mut World, sink: &mut MemSink, jid: &str) -> Result<(), StepFa
     }
 }
 
-fn publish(
+// One text as an argument, and no argument where the text is empty.
+fn arguments(rt: &impl Abort, alloc: Global, text: &str) -> Items {
+    let mut items = Items::new(alloc);
+    if !text.is_empty() {
+        let text = String::from_str(alloc, text).expect(rt, FAILED);
+        items.push(Value::Str(Text::new(text))).expect(rt, FAILED);
+    }
+    items
+}
+
+// Are the arguments within the limits of a value?
+fn args_fit(alloc: Global, args: &[Value]) -> bool
+    ensures value { OnTrue result (ValueFits (v.List args.now)) }
+{
+    match copy_items(alloc, args) {
+        Ok(items) => {
+            let whole = Value::List(items);
+            whole.fits()
+        }
+        Err(_) => false,
+    }
+}
+
+/// Publishes a function of one text, or of none, for a target.
+pub fn publish(
+    rt: &impl Abort,
+    alloc: Global,
+    world: &mut World,
+    sink: &mut MemSink,
+    moment: u64,
+    tgt: Glob,
+    fun: &str,
+    arg: &str,
+) -> Result<(), StepFault> {
+    let fun = Word::read(alloc, fun).expect(rt, FAILED);
+    let args = arguments(rt, alloc, arg);
+    if !args_fit(alloc, args.as_slice()) {
+        panic!(rt; "{FAILED}");
+    }
+    world.step(
+        &Turn::Publish {
+            moment,
+            tgt,
+            fun,
+            args,
+        },
+        sink,
+    )
+}
+
+fn publish_for(
     rt: &impl Abort,
     alloc: Global,
     world: &mut World,
     sink: &mut MemSink,
     moment: u64,
     tgt: &str,
+    fun: &str,
+    arg: &str,
 ) -> Result<(), StepFault> {
     match target(rt, alloc, tgt) {
-        Some(tgt) => world.step(&Turn::Publish { moment, tgt }, sink),
+        Some(tgt) => publish(rt, alloc, world, sink, moment, tgt, fun, arg),
         None => Ok(()),
     }
 }
@@ -113,7 +172,10 @@ fn perform(
     play: Play,
 ) -> Result<(), StepFault> {
     match play {
-        Play::Publish(moment, tgt) => publish(rt, alloc, world, sink, moment, tgt),
+        Play::Publish(moment, tgt) => {
+            publish_for(rt, alloc, world, sink, moment, tgt, "test.ping", "")
+        }
+        Play::Run(moment, fun, arg) => publish_for(rt, alloc, world, sink, moment, "*", fun, arg),
         Play::Send(from, to, count) => {
             send(world, sink, NodeId::new(from), NodeId::new(to), count)
         }

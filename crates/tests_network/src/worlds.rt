@@ -1,9 +1,9 @@
 //! Whole plays over a top with two minions. The expected text is worked out by hand from the rules of the network.
-use crate::plays::{FAILED, PAIR, Play, perform_all, printed, target, world};
+use crate::plays::{FAILED, PAIR, Play, perform_all, printed, publish, target, world};
 use salt_outside::MemSink;
 use std::alloc::Global;
 use std::process::Abort;
-use tree_world::{StepFault, Turn, World};
+use tree_world::{StepFault, World};
 
 // The first job goes to both minions. m2 runs it, and its return comes twice; m1 answers last of all.
 static PING: [Play; 16] = [
@@ -44,6 +44,40 @@ static PACKETS: [Play; 16] = [
     Play::Packet(8),
     Play::Packet(18446744073709551615),
 ];
+
+// Three jobs for m1: their packets come out of order and again, and so do its entries. What it counts is counted once for each job.
+static COUNTED: [Play; 20] = [
+    Play::Run(1700000000000000, "data.incr", "n"),
+    Play::Run(1700000000000000, "data.incr", "n"),
+    Play::Run(1700000000000000, "no.such", ""),
+    Play::Send(0, 2, 9),
+    Play::Deliver(1),
+    Play::Deliver(0),
+    Play::Deliver(0),
+    Play::Deliver(1),
+    Play::Deliver(2),
+    Play::Deliver(1),
+    Play::Send(2, 0, 9),
+    Play::Deliver(12),
+    Play::Deliver(10),
+    Play::Deliver(11),
+    Play::Deliver(11),
+    Play::Deliver(12),
+    Play::Deliver(13),
+    Play::Report("20231114221320000000"),
+    Play::Report("20231114221320000001"),
+    Play::Report("20231114221320000002"),
+];
+
+static COUNTED_TEXT: &str = "publish 20231114221320000000\n\
+publish 20231114221320000001\n\
+publish 20231114221320000002\n\
+report 20231114221320000000 data.incr 1\n\
+m1 0 1\n\
+report 20231114221320000001 data.incr 1\n\
+m1 0 2\n\
+report 20231114221320000002 no.such 1\n\
+m1 254 \"'no.such' is not available.\"\n";
 
 static LAST_JID: [Play; 3] = [
     Play::Publish(253402300799999999, "*"),
@@ -89,6 +123,13 @@ fn a_report_has_the_returns_that_came(rt: HostRuntime) {
 }
 
 #[test]
+fn a_function_runs_once_for_each_job_whatever_is_repeated(rt: HostRuntime) {
+    let alloc = rt.alloc();
+    let text = printed(&rt, alloc, &PAIR, &COUNTED);
+    assert_eq!(rt; text.as_str(), COUNTED_TEXT);
+}
+
+#[test]
 fn a_packet_is_printed_with_its_body(rt: HostRuntime) {
     play(&rt, rt.alloc(), &PACKETS, PACKETS_TEXT);
 }
@@ -124,7 +165,7 @@ fn publish_stars(
         return false;
     };
     let moment = 1700000000000000;
-    world.step(&Turn::Publish { moment, tgt }, sink).is_ok()
+    publish(rt, alloc, world, sink, moment, tgt, "test.ping", "").is_ok()
 }
 
 // Targets of so many stars, and whether they are published.

@@ -15,11 +15,11 @@ use Rattle.salt_wire.specs.declared.deed.Deed.TheVariants.{Publish, Up}
 use Rattle.node_core.specs.declared.faults.Stray.{Stray}
 use Rattle.node_core.specs.declared.faults.Stray.TheVariants.{NotNeighbour, WrongWay}
 use Rattle.node_core.specs.Records.{jobs, log}
-use Rattle.node_core.specs.Node.{NodeState, Taken, with_record, recorded, after_pub, accepted, is_neighbour, may_take, stray_of, unless_stray, taken}
+use Rattle.node_core.specs.Node.{NodeState, Taken, with_record, recorded, after_pub, accepted, is_neighbour, may_take, stray_of, unless_stray, taken, job_of}
 use Rattle.fleet_turns.specs.declared.turn.Turn.{Turn}
 use Rattle.fleet_turns.specs.declared.turn.Turn.TheVariants as kind
 use Rattle.fleet_turns.specs.Turns.{IsTurn}
-use Rattle.tree_world.specs.Network.{Network, ping_of, node_at, start, top_jobs, received, delivered, after, after_all}
+use Rattle.tree_world.specs.Network.{Network, node_at, start, top_jobs, received, delivered, after, after_all}
 use Rattle.tree_laws.specs.Invariant.{Holds}
 use Rattle.tree_laws.proofs.Records.{jobs_push}
 use Rattle.tree_laws.proofs.Calls.{at_same, at_other}
@@ -71,10 +71,10 @@ delivered_top f w i = elim (slice_get_cases w.packets i).1 [
 -- ---- every run
 
 after_bound : (f : FleetConfig) (turn : Turn) (w : Network) → 0 < length w.nodes → length (top_jobs w) ≤ f.max_jobs → length (top_jobs (after f turn w)) ≤ f.max_jobs
-after_bound f (kind.Publish moment tgt) w some h =
-    published_either (λ v. length (top_jobs v) ≤ f.max_jobs) w f.max_jobs moment tgt h
-    (λ jid few late. rw (at_same w.nodes 0 (with_record (Publish (ping_of jid tgt)) (node_at w.nodes 0)) some, jobs_push)
-    (let e = length_push (top_jobs w) (ping_of jid tgt) in omega arith))
+after_bound f (kind.Publish moment tgt fun args) w some h =
+    published_either (λ v. length (top_jobs v) ≤ f.max_jobs) w f.max_jobs moment (λ jid. job_of jid tgt fun args) h
+    (λ jid few late. rw (at_same w.nodes 0 (with_record (Publish (job_of jid tgt fun args)) (node_at w.nodes 0)) some, jobs_push)
+    (let e = length_push (top_jobs w) (job_of jid tgt fun args) in omega arith))
 after_bound f (kind.Send from to count) w some h = h
 after_bound f (kind.Deliver i) w some h = subst (λ js. length js ≤ f.max_jobs) (sym (delivered_top f w i)) h
 after_bound f (kind.Report jid) w some h = h

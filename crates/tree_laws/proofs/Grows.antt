@@ -12,10 +12,10 @@ use Rattle.salt_wire.specs.declared.deed.Deed.TheVariants.{Publish, Up}
 use Rattle.salt_wire.specs.declared.message.Message.{Message}
 use Rattle.salt_wire.specs.declared.message.Message.TheVariants as msg
 use Rattle.node_core.specs.Records.{jobs_held, log}
-use Rattle.node_core.specs.Node.{NodeState, Taken, with_record, recorded, taken_in, accepted, stray_of, unless_stray, taken}
+use Rattle.node_core.specs.Node.{NodeState, Taken, with_record, recorded, taken_in, accepted, stray_of, unless_stray, taken, job_of}
 use Rattle.fleet_turns.specs.declared.turn.Turn.{Turn}
 use Rattle.fleet_turns.specs.declared.turn.Turn.TheVariants as kind
-use Rattle.tree_world.specs.Network.{ping_of, Network, node_at, top_jobs, received, delivered, after, after_all}
+use Rattle.tree_world.specs.Network.{Network, node_at, top_jobs, received, delivered, after, after_all}
 use Rattle.tree_laws.specs.Lists.{IsPrefix}
 use Rattle.tree_laws.proofs.Lists.{prefix_same, prefix_trans}
 use Rattle.tree_laws.proofs.Records.{jobs_prefix}
@@ -61,9 +61,9 @@ delivered_grows f w i = elim (slice_get_cases w.packets i).1 [
 ]
 
 after_grows : (f : FleetConfig) (turn : Turn) (w : Network) → Grew w (after f turn w)
-after_grows f (kind.Publish moment tgt) w =
-    published_either (Grew w) w f.max_jobs moment tgt (λ i. prefix_same (node_at w.nodes i).records)
-    (λ jid few late. set_grows w.nodes 0 (with_record (Publish (ping_of jid tgt)) (node_at w.nodes 0)) (Publish (ping_of jid tgt) ∷ [], refl))
+after_grows f (kind.Publish moment tgt fun args) w =
+    published_either (Grew w) w f.max_jobs moment (λ jid. job_of jid tgt fun args) (λ i. prefix_same (node_at w.nodes i).records)
+    (λ jid few late. set_grows w.nodes 0 (with_record (Publish (job_of jid tgt fun args)) (node_at w.nodes 0)) (Publish (job_of jid tgt fun args) ∷ [], refl))
 after_grows f (kind.Send from to count) w = λ i. prefix_same (node_at w.nodes i).records
 after_grows f (kind.Deliver i) w = delivered_grows f w i
 after_grows f (kind.Report jid) w = λ i. prefix_same (node_at w.nodes i).records

@@ -17,14 +17,14 @@ use Rattle.fleet_config.specs.Tree.{Tree, member, id_of, parent_of, is_minion, i
 use Rattle.minion_core.specs.Flat.{nothing_held, last_jid, is_after, is_later}
 use Rattle.node_core.specs.Records.{jobs, jobs_held, log}
 use Rattle.node_core.specs.Counts.{known}
-use Rattle.node_core.specs.Node.{held_of, NodeState, with_record, is_here, pubs_from, ups_from, pending_ups, pending, publication, first_node}
+use Rattle.node_core.specs.Node.{held_of, NodeState, with_record, is_here, pubs_from, ups_from, pending_ups, pending, publication, first_node, job_of}
 use Rattle.node_core.specs.declared.faults.PublishFault.TheVariants.{JidEnd}
 use Rattle.salt_value.specs.Jid.{next_jid, greatest_jid}
 use Rattle.std.specs.Option.{ok_or}
 use Rattle.std.specs.Prelude.{min}
 use Rattle.fleet_turns.specs.declared.turn.Turn.{Turn}
 use Rattle.fleet_turns.specs.declared.turn.Turn.TheVariants as kind
-use Rattle.tree_world.specs.Network.{Network, ping_of, node_at, start, top_jobs, with_node_at, with_packets, published, packet, sent, received, delivered, after, after_all, most_sent}
+use Rattle.tree_world.specs.Network.{Network, node_at, start, top_jobs, with_node_at, with_packets, published, packet, sent, received, delivered, after, after_all, most_sent}
 use Rattle.fleet_turns.specs.Turns.{IsTurn}
 use Rattle.tree_laws.specs.Invariant.{Fits, IsSent, Names, IsNode, IsPair, Holds}
 use Rattle.tree_laws.proofs.Lists.{prefix_same, all_join, all_imply, all_at, all_map, all_take, at_drop}
@@ -91,21 +91,21 @@ next_later (Some last) moment jid e =
     lt-ltb last jid (omega arith)
 
 -- whatever holds of the network as it was, and as it is with the record, holds after a publication
-pub published_either : (P : Network → Type 0) (w : Network) (max_jobs moment : ℕ) (tgt : List ℕ) → P w
-    → ((jid : ℕ) → length (top_jobs w) < max_jobs → is_after (last_jid (top_jobs w)) jid ≡ true → P (with_node_at w 0 (with_record (Publish (ping_of jid tgt)) (node_at w.nodes 0))))
-    → P (published tgt (publication max_jobs moment (top_jobs w)) w)
-published_either P w max_jobs moment tgt old more = elim (leb_tells max_jobs (length (top_jobs w))) [
+pub published_either : (P : Network → Type 0) (w : Network) (max_jobs moment : ℕ) (job : ℕ → Job) → P w
+    → ((jid : ℕ) → length (top_jobs w) < max_jobs → is_after (last_jid (top_jobs w)) jid ≡ true → P (with_node_at w 0 (with_record (Publish (job jid)) (node_at w.nodes 0))))
+    → P (published job (publication max_jobs moment (top_jobs w)) w)
+published_either P w max_jobs moment job old more = elim (leb_tells max_jobs (length (top_jobs w))) [
   | inl y ↦ rw y.0 old
   | inr y ↦ rw y.0 (go (omega arith) (next_jid (last_jid (top_jobs w)) moment) refl)
 ] where
-  go : length (top_jobs w) < max_jobs → (o : Option ℕ) → next_jid (last_jid (top_jobs w)) moment ≡ o → P (published tgt (ok_or o JidEnd) w)
+  go : length (top_jobs w) < max_jobs → (o : Option ℕ) → next_jid (last_jid (top_jobs w)) moment ≡ o → P (published job (ok_or o JidEnd) w)
   go few None e = old
   go few (Some jid) e = more jid few (next_later (last_jid (top_jobs w)) moment jid e)
 
-publish_step : (f : FleetConfig) (w : Network) (moment : ℕ) (tgt : List ℕ) → IsFleet f → Holds f.tree w → Holds f.tree (published tgt (publication f.max_jobs moment (top_jobs w)) w)
-publish_step f w moment tgt fleet h =
-    published_either (Holds f.tree) w f.max_jobs moment tgt h
-    (λ jid few late. add_step f.tree w (ping_of jid tgt) fleet.tree h (let l = fleet.jobs in omega arith) late)
+publish_step : (f : FleetConfig) (w : Network) (moment : ℕ) (job : ℕ → Job) → IsFleet f → Holds f.tree w → Holds f.tree (published job (publication f.max_jobs moment (top_jobs w)) w)
+publish_step f w moment job fleet h =
+    published_either (Holds f.tree) w f.max_jobs moment job h
+    (λ jid few late. add_step f.tree w (job jid) fleet.tree h (let l = fleet.jobs in omega arith) late)
 
 -- send: what is pending may be sent
 pubs_fit : (f : Tree) (me to : ℕ) (node : NodeState) → is_parent f me to ≡ true → (seq : ℕ) (js : List Job)
@@ -176,7 +176,7 @@ send_step f w from to count h lf lt g =
     (all_take (Fits f.tree from to (node_at w.nodes from)) (min count most_sent) all g))
 
 pub after_step : (f : FleetConfig) (turn : Turn) (w : Network) → IsFleet f → IsTurn f turn → Holds f.tree w → Holds f.tree (after f turn w)
-after_step f (kind.Publish moment tgt) w fleet t h = publish_step f w moment tgt fleet h
+after_step f (kind.Publish moment tgt fun args) w fleet t h = publish_step f w moment (λ jid. job_of jid tgt fun args) fleet h
 after_step f (kind.Send from to count) w fleet t h = send_step f w from to count h t.0 t.1 (pending_fits f.tree from to (node_at w.nodes from) fleet.tree t.3)
 after_step f (kind.Deliver i) w fleet t h = delivered_step f w i fleet.tree h
 after_step f (kind.Report jid) w fleet t h = h

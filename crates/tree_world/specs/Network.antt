@@ -1,5 +1,5 @@
 -- The network machine: the nodes of a fleet, and the list of all packets ever sent. Each turn is one step.
-use Rattle.std.specs.Prelude.{ℕ, codes, min, false, List, [], ◌∷◌, ◌++◌, length, map, take, slice_get, slice_set, Option, None, Some, Result, Ok, Err, nat_lt, if◌then◌else◌}
+use Rattle.std.specs.Prelude.{ℕ, min, false, List, [], ◌∷◌, ◌++◌, length, map, take, slice_get, slice_set, Option, None, Some, Result, Ok, Err, nat_lt, if◌then◌else◌}
 use Rattle.std.specs.List.{slice_index_or}
 use Rattle.fleet_config.specs.Fleet.{FleetConfig}
 use Rattle.salt_wire.specs.declared.message.Job.{Job}
@@ -49,14 +49,10 @@ with_node_at w i node = record w { nodes = slice_set w.nodes i node }
 abbrev pub with_packets : Network → List Packet → Network
 with_packets w new = record w { packets = w.packets ++ new }
 
--- the job of a publication: `test.ping` without arguments
-abbrev pub ping_of : ℕ → List ℕ → Job
-ping_of jid tgt = job_of jid tgt (codes "test.ping") []
-
--- a publication adds one record at the top, or nothing where it is refused
-abbrev pub published : List ℕ → Result ℕ PublishFault → Network → Network
-published tgt (Err cause) w = w
-published tgt (Ok jid) w = with_node_at w 0 (with_record (r.Publish (ping_of jid tgt)) (node_at w.nodes 0))
+-- a publication adds one record at the top, that of the job with its jid, or nothing where it is refused
+abbrev pub published : (ℕ → Job) → Result ℕ PublishFault → Network → Network
+published job (Err cause) w = w
+published job (Ok jid) w = with_node_at w 0 (with_record (r.Publish (job jid)) (node_at w.nodes 0))
 
 -- a message on its way between two places
 abbrev pub packet : ℕ → ℕ → Message → Packet
@@ -98,7 +94,7 @@ delivered f w (Some p) = if nat_lt p.to (length w.nodes) then received f w p els
 
 -- the network after a turn
 abbrev pub after : FleetConfig → Turn → Network → Network
-after f (Publish moment tgt) w = published tgt (publication f.max_jobs moment (top_jobs w)) w
+after f (Publish moment tgt fun args) w = published (λ jid. job_of jid tgt fun args) (publication f.max_jobs moment (top_jobs w)) w
 after f (Send from to count) w = with_packets w (sent f from to count w)
 after f (Deliver i) w = delivered f w (slice_get w.packets i)
 after f (Report jid) w = w

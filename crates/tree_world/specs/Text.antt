@@ -74,7 +74,7 @@ packet_text f i (Some p) =
 
 -- what a turn prints
 abbrev pub printed : FleetConfig → Turn → Network → List ℕ
-printed f (Publish moment tgt) w = publish_text (publication f.max_jobs moment (top_jobs w))
+printed f (Publish moment tgt fun args) w = publish_text (publication f.max_jobs moment (top_jobs w))
 printed f (Send from to count) w = []
 printed f (Deliver i) w = []
 printed f (Report jid) w = report_text f w jid (number_of jid (top_jobs w))

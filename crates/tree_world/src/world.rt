@@ -1,6 +1,8 @@
 //! The network of a fleet, and its turns.
-ghost use Rattle.std.specs.Prelude.{codes, ◌≡◌, ◌≢◌, ◌<◌, ◌++◌, ◌^◌, List, All, slice_set, length, map, take, true, IfOk, IfErr, IfSome, OnOk, OnErr, IsErrOf, Ok, Err};
-ghost use Rattle.node_core.specs.Node.{first_node, pending, is_neighbour, IsCounted};
+ghost use Rattle.std.specs.Prelude.{◌≡◌, ◌≢◌, ◌<◌, ◌++◌, ◌^◌, List, All, slice_set, length, map, take, true, IfOk, IfErr, IfSome, OnOk, OnErr, IsErrOf, Ok, Err};
+ghost use Rattle.salt_value.specs.declared.value.Value.TheVariants as v;
+ghost use Rattle.salt_value.specs.WellFormed.{ValueFits};
+ghost use Rattle.node_core.specs.Node.{job_of, first_node, pending, is_neighbour, IsCounted};
 ghost use Rattle.salt_wire.specs.Limits.{Within};
 ghost use Rattle.tree_world.specs.Network.{node_at, reception, with_reply, replied};
 ghost use Rattle.tree_world.specs.Packets.{Packet};
@@ -17,7 +19,7 @@ use fleet_config::Fleet;
 use fleet_turns::Turn;
 use node_core::{Glob, Node, PendFault, PublishFault, TakeFault};
 use salt_outside::{Outside, Sink};
-use salt_value::{Jid, NodeId, Word, WordFault};
+use salt_value::{Jid, NodeId, Value, Word};
 use salt_wire::Message;
 use sqlite_items::at;
 use std::alloc::{AllocError, Global};
@@ -118,8 +120,13 @@ impl World {
         ensures faults { CountsFaults (IsErrOf result StepFault.WriteFault) (K.faults sink.old) (K.faults sink.new) }
     {
         match turn {
-            Turn::Publish { moment, tgt } => {
-                let text = self.publish(*moment, tgt)?;
+            Turn::Publish {
+                moment,
+                tgt,
+                fun,
+                args,
+            } => {
+                let text = self.publish(*moment, tgt, fun, args.as_slice())?;
                 tell(sink, &text)
             }
             Turn::Send { from, to, count } => Ok(self.send(*from, *to, *count)?),
@@ -136,12 +143,19 @@ impl World {
     }
 
     // A publication at the top, and its line.
-    fn publish(&mut self, moment: u64, tgt: &Glob) -> Result<Vec<u8>, AllocError>
-        ensures state { OnOk result (self.new.network ≡ after self.old.fleet (Turn.Publish moment tgt.now) self.old.network) }
+    fn publish(
+        &mut self,
+        moment: u64,
+        tgt: &Glob,
+        fun: &Word,
+        args: &[Value],
+    ) -> Result<Vec<u8>, AllocError>
+        requires { ValueFits (v.List args.now) }
+        ensures state { OnOk result (self.new.network ≡ after self.old.fleet (Turn.Publish moment tgt.now fun.now args.now) self.old.network) }
         ensures fleet { self.new.fleet ≡ self.old.fleet }
-        ensures text { IfOk result (λ text. text.items ≡ printed self.old.fleet (Turn.Publish moment tgt.now) self.old.network) }
+        ensures text { IfOk result (λ text. text.items ≡ printed self.old.fleet (Turn.Publish moment tgt.now fun.now args.now) self.old.network) }
     {
-        match self.publish_at_top(moment, tgt) {
+        match self.publish_at_top(moment, tgt, fun, args) {
             Ok(jid) => published_text(self.alloc, jid),
             Err(PublishFault::JobsFull { .. }) => refused_text(self.alloc, b"JobsFull"),
             Err(PublishFault::JidEnd) => refused_text(self.alloc, b"JidEnd"),
@@ -150,9 +164,16 @@ impl World {
     }
 
     // The record of a publication, or why it is refused.
-    fn publish_at_top(&mut self, moment: u64, tgt: &Glob) -> Result<Jid, PublishFault>
+    fn publish_at_top(
+        &mut self,
+        moment: u64,
+        tgt: &Glob,
+        fun: &Word,
+        args: &[Value],
+    ) -> Result<Jid, PublishFault>
+        requires { ValueFits (v.List args.now) }
         ensures ok { IfOk result (λ jid. publication self.old.fleet.max_jobs moment (top_jobs self.old.network) ≡ Ok jid) }
-        ensures state { IfOk result (λ jid. self.new.network ≡ published tgt.now (Ok jid) self.old.network) }
+        ensures state { IfOk result (λ jid. self.new.network ≡ published (λ jid. job_of jid tgt.now fun.now args.now) (Ok jid) self.old.network) }
         ensures err { OnErr result (self.new.network ≡ self.old.network) }
         ensures fault { IfErr result (λ fault. fault ≢ PublishFault.NoMemory → publication self.old.fleet.max_jobs moment (top_jobs self.old.network) ≡ Err fault) }
         ensures fleet { self.new.fleet ≡ self.old.fleet }
@@ -160,8 +181,7 @@ impl World {
         let Some(top) = self.nodes.first_mut() else {
             unreachable!();
         };
-        let fun = ping(self.alloc)?;
-        top.publish(&self.fleet, moment, tgt, &fun, &[])
+        top.publish(&self.fleet, moment, tgt, fun, args)
     }
 
     // The lines of a report.
@@ -316,17 +336,6 @@ pub fn tell<K: Sink>(sink: &mut K, text: &[u8]) -> Result<(), StepFault>
         Ok(()) => Ok(()),
         Err(Outside::NoMemory) => Err(StepFault::NoMemory),
         Err(Outside::Failed) => Err(StepFault::WriteFault),
-    }
-}
-
-// The name of the function that a turn publishes.
-fn ping(alloc: Global) -> Result<Word, AllocError>
-    ensures { IfOk result (λ fun. fun ≡ codes "test.ping") }
-{
-    match Word::read(alloc, "test.ping") {
-        Ok(fun) => Ok(fun),
-        Err(WordFault::NoMemory) => Err(AllocError),
-        Err(_) => unreachable!(),
     }
 }
 
