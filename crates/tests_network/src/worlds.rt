@@ -124,9 +124,7 @@ fn a_report_has_the_returns_that_came(rt: HostRuntime) {
 
 #[test]
 fn a_function_runs_once_for_each_job_whatever_is_repeated(rt: HostRuntime) {
-    let alloc = rt.alloc();
-    let text = printed(&rt, alloc, &PAIR, &COUNTED);
-    assert_eq!(rt; text.as_str(), COUNTED_TEXT);
+    play(&rt, rt.alloc(), &COUNTED, COUNTED_TEXT);
 }
 
 #[test]
