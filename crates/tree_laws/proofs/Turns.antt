@@ -1,5 +1,5 @@
 -- What each turn keeps.
-use Rattle.std.proofs.Common.{◌≡◌, ℕ, zero, suc, ◌+◌, ◌<◌, ◌⊎◌, ◌∙◌, sym, ap, refl, inl, inr, Bool, true, false, max, List, [], ◌∷◌, ◌++◌, length, take, drop, arith, le_refl}
+use Rattle.std.proofs.Common.{subst, ◌≡◌, ℕ, zero, suc, ◌+◌, ◌<◌, ◌⊎◌, ◌∙◌, sym, ap, refl, inl, inr, Bool, true, false, max, List, [], ◌∷◌, ◌++◌, length, take, drop, arith, le_refl}
 use Rattle.std.specs.Prelude.{Option, None, Some, map, flat_map, slice_get, filter, nat_le, ◌&&◌, if◌then◌else◌, nat_lt}
 use Rattle.std.specs.List.{AllByRecursion}
 use Rattle.std.proofs.lemmas.List.{length_push, length-map}
@@ -102,10 +102,10 @@ published_either P w max_jobs moment job old more = elim (leb_tells max_jobs (le
   go few None e = old
   go few (Some jid) e = more jid few (next_later (last_jid (top_jobs w)) moment jid e)
 
-publish_step : (f : FleetConfig) (w : Network) (moment : ℕ) (job : ℕ → Job) → IsFleet f → Holds f.tree w → Holds f.tree (published job (publication f.max_jobs moment (top_jobs w)) w)
-publish_step f w moment job fleet h =
+publish_step : (f : FleetConfig) (w : Network) (moment : ℕ) (job : ℕ → Job) → ((jid : ℕ) → (job jid).jid ≡ jid) → IsFleet f → Holds f.tree w → Holds f.tree (published job (publication f.max_jobs moment (top_jobs w)) w)
+publish_step f w moment job named fleet h =
     published_either (Holds f.tree) w f.max_jobs moment job h
-    (λ jid few late. add_step f.tree w (job jid) fleet.tree h (let l = fleet.jobs in omega arith) late)
+    (λ jid few late. add_step f.tree w (job jid) fleet.tree h (let l = fleet.jobs in omega arith) (subst (λ j. is_after (last_jid (top_jobs w)) j ≡ true) (sym (named jid)) late))
 
 -- send: what is pending may be sent
 pubs_fit : (f : Tree) (me to : ℕ) (node : NodeState) → is_parent f me to ≡ true → (seq : ℕ) (js : List Job)
@@ -176,7 +176,7 @@ send_step f w from to count h lf lt g =
     (all_take (Fits f.tree from to (node_at w.nodes from)) (min count most_sent) all g))
 
 pub after_step : (f : FleetConfig) (turn : Turn) (w : Network) → IsFleet f → IsTurn f turn → Holds f.tree w → Holds f.tree (after f turn w)
-after_step f (kind.Publish moment tgt fun args) w fleet t h = publish_step f w moment (λ jid. job_of jid tgt fun args) fleet h
+after_step f (kind.Publish moment tgt fun args) w fleet t h = publish_step f w moment (λ jid. job_of jid tgt fun args) (λ jid. refl) fleet h
 after_step f (kind.Send from to count) w fleet t h = send_step f w from to count h t.0 t.1 (pending_fits f.tree from to (node_at w.nodes from) fleet.tree t.3)
 after_step f (kind.Deliver i) w fleet t h = delivered_step f w i fleet.tree h
 after_step f (kind.Report jid) w fleet t h = h

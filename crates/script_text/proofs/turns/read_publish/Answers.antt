@@ -1,10 +1,11 @@
 use Rattle.script_text.proofs.TurnLines.{publish_found, publish_none}
 use Rattle.script_text.proofs.turns.read_publish.Goals as goal
 
-pub returns-in-Some : goal.returns-in-Some
-returns-in-Some c =
-    publish_found c.args.ids.now.keys c.args.line.now c.args.rest.now (c.in-Some.moment, c.in-Some.tgt) c.requires
-    (rw c.in-Some.is at (c.in_ok-moment.ensures {u = tt}))
+pub returns-in_ok-ping-in-Some : goal.returns-in_ok-ping-in-Some
+returns-in_ok-ping-in-Some c =
+    rw c.in_ok-ping-in-Some.ensures
+    (publish_found c.args.ids.now.keys c.args.line.now c.args.rest.now (c.in-Some.moment, c.in-Some.tgt) c.requires
+    (rw c.in-Some.is at (c.in_ok-moment.ensures {u = tt})))
 
 pub returns-in-None : goal.returns-in-None
 returns-in-None c =
