@@ -28,8 +28,8 @@ use indexmap::IndexMap;
 use minion_core::{MinionCore, nothing_held};
 use salt_value::{Jid, MinionId, NodeId, Outcome, Value, Word, copy_items};
 use salt_wire::{Deed, Entry, Job, Message};
-use std::alloc::{AllocError, Global};
 use sqlite_items::Boxed;
+use std::alloc::{AllocError, Global};
 use std::marker::Model;
 use target_tree::{Kind, Target};
 

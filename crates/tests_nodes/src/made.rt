@@ -8,8 +8,8 @@ use fleet_config::{Fleet, FleetNode, NodeFault, Role};
 use node_core::Glob;
 use salt_value::{Items, Jid, MinionId, NodeId, Text, Value, Word, copy_items};
 use salt_wire::Job;
-use std::alloc::Global;
 use sqlite_items::Boxed;
+use std::alloc::Global;
 use std::process::Abort;
 use target_tree::{Kind, Target};
 
@@ -127,8 +127,9 @@ fn job_for_all(
         jid,
         kind: Kind::Glob,
         tgt: tgt.text().copy().expect(rt, FAILED),
-        target: Boxed::new(alloc, Target::IdGlob(tgt.text().copy().expect(rt, FAILED)))
-            .expect(rt, FAILED),
+        target: Boxed::new(alloc, Target::IdGlob(tgt.text().copy().expect(rt, FAILED))).expect(
+            rt, FAILED,
+        ),
         fun,
         args,
     }
