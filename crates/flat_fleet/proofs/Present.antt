@@ -18,7 +18,7 @@ use Rattle.salt_value.specs.declared.outcome.Row.{Row}
 use Rattle.salt_wire.specs.declared.message.Entry.TheVariants.{Return}
 use Rattle.salt_wire.specs.declared.deed.Deed.{Deed}
 use Rattle.salt_wire.specs.declared.deed.Deed.TheVariants.{Done}
-use Rattle.minion_core.specs.Flat.{row_of, does_hold, entry_of, done_by, done, held_after, held_by, entries_in, flat_records, flat_up, flat_held, return_of}
+use Rattle.minion_core.specs.Flat.{row_of, does_hold, entry_of, done_by, job_record, held_after, held_by, entries_in, flat_records, flat_up, flat_held, return_of}
 use Rattle.minion_core.proofs.Changes.{changed_is}
 use Rattle.minion_core.proofs.FlatSteps.{step_from, flat_push}
 use Rattle.flat_fleet.specs.declared.report.FlatMinion.{FlatMinion}
@@ -36,8 +36,8 @@ outcome_by : (seq : ℕ) (held : Holdings) (t : Bool) (ran : Ran)
 outcome_by seq held true ran = its_return seq (with_change ran.change held) ran.outcome ran.notes
 outcome_by seq held false ran = refl
 
-outcome_is : (seq : ℕ) (job : Job) (m : FlatMinion) → return_of seq (entries_in (done seq job m.id m.held)) ≡ outcome_of job m
-unfolding done
+outcome_is : (seq : ℕ) (job : Job) (m : FlatMinion) → return_of seq (entries_in (job_record seq job m.id m.held)) ≡ outcome_of job m
+unfolding job_record
 outcome_is seq job m = outcome_by seq m.held (does_hold job m.id m.held) (run job.fun job.args m.held)
 
 held_step : (seq : ℕ) (held : Holdings) (t : Bool) (ran : Ran)
@@ -45,8 +45,8 @@ held_step : (seq : ℕ) (held : Holdings) (t : Bool) (ran : Ran)
 held_step seq held true ran = changed_is ran.change held
 held_step seq held false ran = refl
 
-held_is : (seq : ℕ) (job : Job) (m : FlatMinion) → held_after m.held (done seq job m.id m.held) ≡ (minion_after job m).held
-unfolding done
+held_is : (seq : ℕ) (job : Job) (m : FlatMinion) → held_after m.held (job_record seq job m.id m.held) ≡ (minion_after job m).held
+unfolding job_record
 held_is seq job m = held_step seq m.held (does_hold job m.id m.held) (run job.fun job.args m.held)
 
 -- ---- after some jobs
@@ -61,8 +61,8 @@ held_by_push h (e ∷ ds) d = held_by_push (held_after h e) ds d
 present_more : (xs : List Job) (job : Job) (m : FlatMinion) → minion_after job (present xs m) ≡ present (xs ++ job ∷ []) m
 present_more xs job m =
     let h : Holdings = flat_held 0 m.id m.held xs in
-    let next : flat_held 0 m.id m.held (xs ++ job ∷ []) ≡ held_after h (done (0 + length xs) job m.id h) =
-    ap (held_by m.held) (flat_push 0 m.id m.held xs job) ∙ held_by_push m.held (flat_records 0 m.id m.held xs) (done (0 + length xs) job m.id h) in
+    let next : flat_held 0 m.id m.held (xs ++ job ∷ []) ≡ held_after h (job_record (0 + length xs) job m.id h) =
+    ap (held_by m.held) (flat_push 0 m.id m.held xs job) ∙ held_by_push m.held (flat_records 0 m.id m.held xs) (job_record (0 + length xs) job m.id h) in
     ap (λ (x : Holdings). record m { held = x }) (sym (next ∙ held_is (0 + length xs) job (present xs m)))
 
 pub all_more : (xs : List Job) (job : Job) (ms : List FlatMinion) → map (minion_after job) (map (present xs) ms) ≡ map (present (xs ++ job ∷ [])) ms

@@ -2,7 +2,7 @@
 use Rattle.std.proofs.Common.{◌≡◌, ℕ, ◌+◌, ◌≤◌, drop, List, [], ◌∷◌, ◌++◌, length, refl, sym, ◌∙◌, ap, subst, arith, length-append}
 use Rattle.std.proofs.lemmas.List.{append-nil, drop_all}
 use Rattle.salt_disk.specs.declared.disk.Part.{Part}
-use Rattle.salt_disk.specs.Disk.{PartState, DiskState, part_of, settled, IsSettled, put, Stays}
+use Rattle.salt_disk.specs.Disk.{PartState, DiskState, part_of, settled_part, IsSettled, put, Stays}
 use Rattle.salt_disk.specs.Crash.{Image, IsPartImage, MayLeave, LeavesOnly, WritesOnly, OthersStay}
 use Rattle.salt_disk.proofs.Moments.{one_call, stays_on}
 use Rattle.salt_disk.proofs.Torn.{settled_image}
@@ -46,13 +46,13 @@ first_bytes limit bytes old is short =
     ap (λ (l : List ℕ). bytes ++ l) none ∙ append-nil bytes
 
 -- both writes leave a fresh journal
-pub made_bytes : (limit : ℕ) (bytes : List ℕ) (old mid new : PartState) → bytes ≡ 0 ∷ (drop 1 (header limit) ++ 0 ∷ []) → length old.bytes ≤ 17 → mid ≡ settled (put 0 bytes old.bytes) → new ≡ settled (put 0 (83 ∷ []) mid.bytes)
+pub made_bytes : (limit : ℕ) (bytes : List ℕ) (old mid new : PartState) → bytes ≡ 0 ∷ (drop 1 (header limit) ++ 0 ∷ []) → length old.bytes ≤ 17 → mid ≡ settled_part (put 0 bytes old.bytes) → new ≡ settled_part (put 0 (83 ∷ []) mid.bytes)
     → new.bytes ≡ fresh_journal limit
 made_bytes limit bytes old mid new is short first second =
     let mid_is : mid.bytes ≡ 0 ∷ (drop 1 (header limit) ++ 0 ∷ []) = ap (λ (p : PartState). p.bytes) first ∙ first_bytes limit bytes old.bytes is short ∙ is in
     ap (λ (p : PartState). p.bytes) second ∙ ap (λ (l : List ℕ). put 0 (83 ∷ []) l) mid_is ∙ refl
 
-pub made : (limit : ℕ) (bytes : List ℕ) (old mid new : PartState) → bytes ≡ 0 ∷ (drop 1 (header limit) ++ 0 ∷ []) → length old.bytes ≤ 17 → mid ≡ settled (put 0 bytes old.bytes) → new ≡ settled (put 0 (83 ∷ []) mid.bytes)
+pub made : (limit : ℕ) (bytes : List ℕ) (old mid new : PartState) → bytes ≡ 0 ∷ (drop 1 (header limit) ++ 0 ∷ []) → length old.bytes ≤ 17 → mid ≡ settled_part (put 0 bytes old.bytes) → new ≡ settled_part (put 0 (83 ∷ []) mid.bytes)
     → 64 ≤ limit → limit ≤ 1073741824 → Rests limit 17 [] new
 made limit bytes old mid new is short first second least greatest =
     record {

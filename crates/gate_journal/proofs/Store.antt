@@ -4,7 +4,7 @@ use Rattle.std.proofs.lemmas.List.{append-nil, take_at, drop_at, drop_more}
 use Rattle.std.proofs.lemmas.Bool.{cases_eq}
 use Rattle.byteorder.specs.Endian.{big_bytes}
 use Rattle.salt_disk.specs.declared.disk.Part.{Part}
-use Rattle.salt_disk.specs.Disk.{PartState, DiskState, part_of, settled, IsSettled, put}
+use Rattle.salt_disk.specs.Disk.{PartState, DiskState, part_of, settled_part, IsSettled, put}
 use Rattle.salt_disk.specs.Crash.{Image, MayLeave, IsPartImage, IsTorn, WritesOnly, OthersStay}
 use Rattle.salt_disk.proofs.Torn.{torn_put, settled_image}
 use Rattle.gate_journal.specs.Journal.{record_of, records, header, journal_length, tail_of, IsJournal, Rests, IsNext, HoldsOldOrNew, DecidedByGate}
@@ -162,7 +162,7 @@ module _ (part : Part) (limit len : ℕ) (payloads : List (List ℕ)) (payload b
   pub body_old : (image : Image) → WritesOnly part len (length body) old image → IsJournal limit payloads (image part)
   body_old image writes = torn_body limit len payloads next.rests.counts (length body) (part_of old part).bytes (image part) next.rests.holds writes.here
 
-  module _ (mid : DiskState) (written : part_of mid part ≡ settled (put len body (part_of old part).bytes)) (stay : OthersStay part old mid) where
+  module _ (mid : DiskState) (written : part_of mid part ≡ settled_part (put len body (part_of old part).bytes)) (stay : OthersStay part old mid) where
     pub staged : IsStaged limit payloads payload (part_of mid part).bytes
     staged = subst (λ (l : List ℕ). IsStaged limit payloads payload l)
         (sym (ap (λ (p : PartState). p.bytes) written ∙ ap (λ (l : List ℕ). put len l (part_of old part).bytes) next.body_is))
@@ -179,7 +179,7 @@ module _ (part : Part) (limit len : ℕ) (payloads : List (List ℕ)) (payload b
     gate_decides image writes = torn_gate_by limit len payloads next.rests.counts payload next.room (part_of mid part).bytes (image part) staged writes.here
 
     -- at the end the new payload stands there
-    pub rests_new : (new : PartState) → new ≡ settled (put (len - 1) (1 ∷ []) (part_of mid part).bytes) → Rests limit (len + 5 + length payload) (payloads ++ payload ∷ []) new
+    pub rests_new : (new : PartState) → new ≡ settled_part (put (len - 1) (1 ∷ []) (part_of mid part).bytes) → Rests limit (len + 5 + length payload) (payloads ++ payload ∷ []) new
     rests_new new is = record {
       holds = subst (λ (p : PartState). IsJournal limit (payloads ++ payload ∷ []) p.bytes) (sym is) (put_gate limit len payloads next.rests.counts payload next.room (part_of mid part).bytes staged);
       counts = omega (arith, next.rests.counts, journal_length-push payloads payload);
@@ -187,7 +187,7 @@ module _ (part : Part) (limit len : ℕ) (payloads : List (List ℕ)) (payload b
     }
 
 -- With the body written and the gate closed the journal is as before, whatever the body is.
-pub rests_old : (limit len : ℕ) (payloads : List (List ℕ)) (body : List ℕ) (old new : PartState) → Rests limit len payloads old → len ≤ length old.bytes → new ≡ settled (put len body old.bytes) → Rests limit len payloads new
+pub rests_old : (limit len : ℕ) (payloads : List (List ℕ)) (body : List ℕ) (old new : PartState) → Rests limit len payloads old → len ≤ length old.bytes → new ≡ settled_part (put len body old.bytes) → Rests limit len payloads new
 rests_old limit len payloads body old new rests within is = record {
   holds = torn_body limit len payloads rests.counts (length body) old.bytes new.bytes rests.holds
       (subst (λ (p : PartState). IsTorn len (length body) old.bytes p.bytes) (sym is) (torn_put len body old.bytes within));

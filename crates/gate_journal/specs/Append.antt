@@ -2,7 +2,7 @@
 use Rattle.std.specs.Prelude.{◌≡◌, ◌⊎◌, ◌<◌, ◌+◌, ℕ, true, false, List, [], ◌∷◌, ◌++◌, Result, Ok, Err, OnOk, IsErrOf}
 use Rattle.salt_disk.specs.declared.disk.Fuse.{Fuse}
 use Rattle.salt_disk.specs.Disk.{DiskState}
-use Rattle.salt_disk.specs.Fuse.{Passes, burnt}
+use Rattle.salt_disk.specs.Fuse.{Passes, fuse_after}
 use Rattle.gate_journal.specs.declared.fault.AppendFault.{AppendFault}
 use Rattle.gate_journal.specs.declared.fault.AppendFault.TheVariants.{NoMemory, Down, Full, Disk}
 use Rattle.gate_journal.specs.Layout.{record_overhead}
@@ -32,7 +32,7 @@ LeftAfter (Err Disk) limit payloads payload file = IsJournal limit payloads file
 -- An append makes four changing calls. A disk that tells which calls fail tells what an append that failed has left.
 pub record AppendBurns {T : Type 0} (journal : JournalState) (payload : List ℕ) (before now : Fuse) (old new : DiskState)
     (result : Result T AppendFault) : Type 0 where
-  pub passed : OnOk result (Passes 4 before × (now ≡ burnt 4 before))
+  pub passed : OnOk result (Passes 4 before × (now ≡ fuse_after 4 before))
   pub not_passed : IsErrOf result Disk → Passes 4 before → ⊥
   pub stopped : IsErrOf result Disk → (payloads : List (List ℕ)) → HoldsPayloads journal payloads old
       → StoppedAppend journal.part journal.limit journal.length payloads payload before new

@@ -2,7 +2,7 @@
 ghost use Rattle.std.specs.Prelude.{◌≡◌, ◌⊎◌, ◌<◌, ◌≤◌, [], ℕ, true, false, length, IfOk, OnOk, IsErrOf};
 ghost use Rattle.salt_disk.specs.Disk.{part_of, IsSettled, Stays};
 ghost use Rattle.salt_disk.specs.Crash.{MayLeave, LeavesOnly, OthersStay};
-ghost use Rattle.salt_disk.specs.Fuse.{Passes, burnt};
+ghost use Rattle.salt_disk.specs.Fuse.{Passes, fuse_after};
 ghost use Rattle.gate_journal.specs.Layout.{least_limit, greatest_limit, first_gate, fresh_length};
 ghost use Rattle.gate_journal.specs.Journal.{IsJournal, fresh_journal, Rests, HoldsPayloads, HoldsOldOrNew};
 ghost use Rattle.gate_journal.specs.Append.{payloads_after, after_append, LeftAfter, AppendBurns, DownExactly, FullExactly};
@@ -56,7 +56,7 @@ impl Journal {
         ensures others { D.is_told → OthersStay part (D.state disk.old) (D.state disk.new) }
         ensures any_moment { D.is_told → LeavesOnly D.past D.state disk.old disk.new (MayLeave (D.state disk.old)) }
         // One changing call passes, but where the answer is `Disk`.
-        ensures passed { D.is_told → (IsErrOf result LoadFault.Disk → ⊥) → Passes 1 (D.fuse disk.old) × (D.fuse disk.new ≡ burnt 1 (D.fuse disk.old)) }
+        ensures passed { D.is_told → (IsErrOf result LoadFault.Disk → ⊥) → Passes 1 (D.fuse disk.old) × (D.fuse disk.new ≡ fuse_after 1 (D.fuse disk.old)) }
         ensures not_passed { D.is_told → IsErrOf result LoadFault.Disk → Passes 1 (D.fuse disk.old) → ⊥ }
 
         // The causes.
@@ -111,7 +111,7 @@ impl Journal {
             → LeavesOnly D.past D.state disk.old disk.new (MayLeave (D.state disk.old)) }
 
         // It makes four changing calls.
-        ensures passed { D.is_told → OnOk result (Passes 4 (D.fuse disk.old) × (D.fuse disk.new ≡ burnt 4 (D.fuse disk.old))) }
+        ensures passed { D.is_told → OnOk result (Passes 4 (D.fuse disk.old) × (D.fuse disk.new ≡ fuse_after 4 (D.fuse disk.old))) }
         ensures not_passed { D.is_told → IsErrOf result CreateFault.Disk → Passes 4 (D.fuse disk.old) → ⊥ }
 
         // The causes.

@@ -4,7 +4,7 @@ ghost use Rattle.gate_journal.specs.declared.read.ReadFault.TheVariants.{NoMemor
 ghost use Rattle.salt_disk.specs.Disk.{part_of, IsSettled, Stays};
 ghost use Rattle.salt_disk.specs.Crash.{LeavesOnly, MayLeave, OthersStay};
 ghost use Rattle.salt_outside.specs.Causes.{CountsFaults};
-ghost use Rattle.salt_disk.specs.Fuse.{Passes, burnt, Lasts};
+ghost use Rattle.salt_disk.specs.Fuse.{Passes, fuse_after, Lasts};
 ghost use Rattle.byteorder.specs.Endian.{big_bytes};
 ghost use Rattle.gate_journal.specs.Layout.{least_limit, greatest_limit, first_gate, fresh_length, record_overhead};
 ghost use Rattle.gate_journal.specs.Journal.{IsJournal, records, header, journal_length};
@@ -99,7 +99,7 @@ pub fn read_synced<D: Disk>(alloc: Global, disk: &mut D, part: Part) -> Result<V
     ensures same { D.is_told → (part_of (D.state disk.new) part).bytes ≡ (part_of (D.state disk.old) part).bytes }
     ensures others { D.is_told → OthersStay part (D.state disk.old) (D.state disk.new) }
     ensures any_moment { D.is_told → LeavesOnly D.past D.state disk.old disk.new (MayLeave (D.state disk.old)) }
-    ensures passed { D.is_told → (IsErrOf result DiskFault.Failed → ⊥) → Passes 1 (D.fuse disk.old) × (D.fuse disk.new ≡ burnt 1 (D.fuse disk.old)) }
+    ensures passed { D.is_told → (IsErrOf result DiskFault.Failed → ⊥) → Passes 1 (D.fuse disk.old) × (D.fuse disk.new ≡ fuse_after 1 (D.fuse disk.old)) }
     ensures not_passed { D.is_told → IsErrOf result DiskFault.Failed → Passes 1 (D.fuse disk.old) → ⊥ }
     ensures faults { CountsFaults (IsErrOf result DiskFault.Failed) (D.faults disk.old) (D.faults disk.new) }
 {

@@ -15,7 +15,7 @@ use Rattle.salt_wire.specs.declared.message.Entry.TheVariants.{Return, Fired, St
 use Rattle.salt_wire.specs.declared.deed.Changed.{Changed}
 use Rattle.salt_wire.specs.declared.deed.Deed.{Deed}
 use Rattle.salt_wire.specs.declared.deed.Deed.TheVariants.{Done}
-use Rattle.minion_core.specs.Flat.{does_hold, entry_of, done_by, done, held_after, entries_in, flat_up, acts, return_of}
+use Rattle.minion_core.specs.Flat.{does_hold, entry_of, done_by, job_record, held_after, entries_in, flat_up, acts, return_of}
 
 -- an entry of job number seq that is no start
 abbrev pub IsOwn : ℕ → Entry → Type 0
@@ -59,8 +59,8 @@ made seq held true ran = record {
 }
 made seq held false ran = record { changed = None; entries = []; is = refl; own = tt; once = tt }
 
-pub done_is : (seq : ℕ) (job : Job) (id : List ℕ) (held : Holdings) → IsDone seq (done seq job id held)
-unfolding done
+pub done_is : (seq : ℕ) (job : Job) (id : List ℕ) (held : Holdings) → IsDone seq (job_record seq job id held)
+unfolding job_record
 done_is seq job id held = made seq held (does_hold job id held) (run job.fun job.args held)
 
 -- ---- what follows from that
@@ -116,5 +116,5 @@ module _ (seq : ℕ) (d : Deed) (h : IsDone seq d) where
 pub return_late : (k seq : ℕ) (id : List ℕ) (h : Holdings) (js : List Job) → k < seq → return_of k (flat_up seq id h js) ≡ None
 return_late k seq id h [] l = refl
 return_late k seq id h (j ∷ js) l =
-    let d : Deed = done seq j id h in
+    let d : Deed = job_record seq j id h in
     return_none k (entries_in d) (flat_up (seq + 1) id (held_after h d) js) (return_done seq d (done_is seq j id h) k l) ∙ return_late k (seq + 1) id (held_after h d) js (omega arith)

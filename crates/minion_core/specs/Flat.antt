@@ -52,8 +52,8 @@ abbrev pub done_by : ℕ → Holdings → Ran → Deed
 done_by seq held ran = Done seq (changed_of ran.change held) (entries_by seq (with_change ran.change held) ran)
 
 -- what a minion records of a job: it runs it where its target holds
-unfoldable pub done : ℕ → Job → List ℕ → Holdings → Deed
-done seq job id held = if does_hold job id held then done_by seq held (run job.fun job.args held) else Done seq None []
+unfoldable pub job_record : ℕ → Job → List ℕ → Holdings → Deed
+job_record seq job id held = if does_hold job id held then done_by seq held (run job.fun job.args held) else Done seq None []
 
 -- what is held after this was recorded as changed
 abbrev pub held_with : Option Changed → Holdings → Holdings
@@ -78,7 +78,7 @@ held_by held (deed ∷ deeds) = held_by (held_after held deed) deeds
 -- the records that the flat minion makes of these jobs, numbered from seq on
 abbrev pub flat_records : ℕ → List ℕ → Holdings → List Job → List Deed
 flat_records seq id held [] = []
-flat_records seq id held (job ∷ jobs) = done seq job id held ∷ flat_records (seq + 1) id (held_after held (done seq job id held)) jobs
+flat_records seq id held (job ∷ jobs) = job_record seq job id held ∷ flat_records (seq + 1) id (held_after held (job_record seq job id held)) jobs
 
 -- the entries that a record adds to its minion's own log, but for that of a start
 abbrev pub entries_in : Deed → List Entry

@@ -6,7 +6,7 @@ ghost use Rattle.salt_wire.specs.declared.deed.Deed.TheVariants.{Boot};
 ghost use Rattle.minion_core.specs.Flat as flat;
 ghost use Rattle.exec_functions.specs.Limits.{AreWithin};
 
-use crate::running::done;
+use crate::running::job_record;
 use exec_functions::Holdings;
 use salt_value::{Fields, MinionId};
 use salt_wire::{Changed, Deed, Entry, Job};
@@ -59,11 +59,11 @@ impl MinionCore {
     /// The record of the next job. It is within the limits of messages, and has at most two entries.
     pub fn run(&self, id: &MinionId, job: &Job) -> Result<Deed, AllocError>
         requires { JobFits job.now }
-        ensures ok { IfOk result (λ deed. deed ≡ flat.done self.now.jobs job.now id.now self.now.held) }
+        ensures ok { IfOk result (λ deed. deed ≡ flat.job_record self.now.jobs job.now id.now self.now.held) }
         ensures fits { IfOk result DeedFits }
         ensures few { IfOk result (λ deed. length (flat.entries_in deed) ≤ 2) }
     {
-        done(self.alloc, self.jobs, job, id, &self.held)
+        job_record(self.alloc, self.jobs, job, id, &self.held)
     }
 
     /// Takes a record in. An error leaves all as it was.

@@ -154,8 +154,8 @@ fn made(
 
 /// The record of a job with this number on a minion that holds this: it runs it where its target holds. The record is within the
 /// limits of messages, and has at most two entries.
-#[tactic(auto, unfolding(crate::specs::Flat::done))]
-pub fn done(
+#[tactic(auto, unfolding(crate::specs::Flat::job_record))]
+pub fn job_record(
     alloc: Global,
     seq: u32,
     job: &Job,
@@ -164,7 +164,7 @@ pub fn done(
 ) -> Result<Deed, AllocError>
     requires job { JobFits job.now }
     requires held { AreWithin held.now }
-    ensures ok { IfOk result (λ deed. deed ≡ spec.done seq job.now id.now held.now) }
+    ensures ok { IfOk result (λ deed. deed ≡ spec.job_record seq job.now id.now held.now) }
     ensures fits { IfOk result DeedFits }
     ensures few { IfOk result (λ deed. length (spec.entries_in deed) ≤ 2) }
 {

@@ -11,7 +11,7 @@ use Rattle.salt_wire.specs.declared.message.Message.{Message}
 use Rattle.salt_wire.specs.declared.message.Message.TheVariants as m
 use Rattle.salt_wire.specs.declared.message.Job.{Job}
 use Rattle.fleet_config.specs.Tree.{Tree, id_of, minions}
-use Rattle.node_core.specs.Counts.{known}
+use Rattle.node_core.specs.Counts.{known_count}
 use Rattle.node_core.specs.Records.{log, jobs, jobs_held}
 use Rattle.node_core.specs.Node.{NodeState, IsCounted, pubs_from, ups_from, pending_ups, pending_up, pending_down}
 
@@ -34,13 +34,13 @@ dropped_counted id n log h = elim (cases_lt n (length log)) [
 minions_counted : (t : Tree) (node : NodeState) → ((id : List ℕ) → length (log id node.records) < 2 ^ 32) → (minions : List ℕ) → All IsCounted (flat_map (pending_ups t node) minions)
 minions_counted t node h [] = All-nil IsCounted
 minions_counted t node h (minion ∷ minions) =
-    All-append IsCounted (pending_ups t node minion) _ (dropped_counted (id_of t minion) (known node.known_ups minion) (log (id_of t minion) node.records) (h (id_of t minion))) (minions_counted t node h minions)
+    All-append IsCounted (pending_ups t node minion) _ (dropped_counted (id_of t minion) (known_count node.known_ups minion) (log (id_of t minion) node.records) (h (id_of t minion))) (minions_counted t node h minions)
 
 pub up_counted : (t : Tree) (me max : ℕ) (node : NodeState) → ((id : List ℕ) → length (log id node.records) < 2 ^ 32) → All IsCounted (take max (pending_up t me node))
 up_counted t me max node h = All-take IsCounted max _ (All-cons IsCounted (m.Have (jobs_held node.records)) _ tt (minions_counted t node h (minions t me)))
 
 pub down_counted : (child max : ℕ) (node : NodeState) → All IsCounted (take max (pending_down child node))
-down_counted child max node = All-take IsCounted max _ (pubs_counted (known node.known_jobs child) (drop (known node.known_jobs child) (jobs node.records)))
+down_counted child max node = All-take IsCounted max _ (pubs_counted (known_count node.known_jobs child) (drop (known_count node.known_jobs child) (jobs node.records)))
 
 -- limits
 pubs_fit : (seq : ℕ) (jobs : List Job) → seq + length jobs < 2 ^ 32 → All JobFits jobs → All Within (pubs_from seq jobs)
@@ -68,7 +68,7 @@ dropped_ups id n log i h f = elim (cases_lt n (length log)) [
 ]
 
 pub down_fits : (child max : ℕ) (node : NodeState) → length (jobs node.records) < 2 ^ 32 → All JobFits (jobs node.records) → All Within (take max (pending_down child node))
-down_fits child max node h f = All-take Within max _ (dropped_pubs (known node.known_jobs child) (jobs node.records) h f)
+down_fits child max node h f = All-take Within max _ (dropped_pubs (known_count node.known_jobs child) (jobs node.records) h f)
 
 pub ups_after : (id : List ℕ) (n max : ℕ) (entries : List Entry) (old : List Message) → IsId id → length entries < 2 ^ 32 → All EntryFits entries
     → All Within old → All Within (take max (old ++ ups_from id n (drop n entries)))

@@ -64,10 +64,10 @@ impl Model for Node {
 
 impl Node {
     ghost use Rattle.fleet_config.specs.Tree.{member};
-    ghost use Rattle.node_core.specs.Node.{NodeState, taken, taken_in, reply_answer, stray_of, accepted, after_pub, after_up, pending, pending_down, pending_up, pending_ups, publication, first_node, with_record, is_neighbour, is_next, may_take, may_record, IsCounted};
+    ghost use Rattle.node_core.specs.Node.{NodeState, message_result, taken_in, reply_answer, stray_of, after_message, after_pub, after_up, pending, pending_down, pending_up, pending_ups, publication, first_node, with_record, is_neighbour, is_next, may_take, may_record, IsCounted};
     ghost use Rattle.node_core.specs.Node.Answer.{Reply};
     ghost use Rattle.node_core.specs.Records.{jobs, log, jobs_held};
-    ghost use Rattle.minion_core.specs.Flat.{done, return_of, nothing_held};
+    ghost use Rattle.minion_core.specs.Flat.{job_record, return_of, nothing_held};
     ghost use Rattle.salt_wire.specs.Limits.{Within, EntryFits};
     ghost use Rattle.salt_wire.specs.declared.deed.Deed.TheVariants.{Publish, Intake, Up, Boot};
 
@@ -121,11 +121,11 @@ impl Node {
         requires within { me < length fleet.now.tree }
         requires counted { IsCounted message.now }
         requires fits { Within message.now }
-        ensures ok { IfOk result (λ reply. taken fleet.now.tree me from message.now self.old ≡ record { node = self.new; answer = reply_answer reply }) }
+        ensures ok { IfOk result (λ reply. message_result fleet.now.tree me from message.now self.old ≡ record { node = self.new; answer = reply_answer reply }) }
         ensures counted { IfOk result (λ reply. IfSome reply IsCounted) }
         ensures fits { IfOk result (λ reply. IfSome reply Within) }
         ensures err { OnErr result (self.new ≡ self.old) }
-        ensures stray { (cause : _) → IsErrOf result (take.Stray cause) → taken fleet.now.tree me from message.now self.old ≡ record { node = self.old; answer = IsStray cause } }
+        ensures stray { (cause : _) → IsErrOf result (take.Stray cause) → message_result fleet.now.tree me from message.now self.old ≡ record { node = self.old; answer = IsStray cause } }
     {
         if let Some(cause) = self.stray_of(fleet, me, from, message) {
             return Err(TakeFault::Stray { cause });
@@ -376,7 +376,7 @@ impl Node {
         requires taken { stray_of fleet.now.tree me from message.now self.old ≡ None }
         requires counted { IsCounted message.now }
         requires fits { Within message.now }
-        ensures accepted { IfOk result (λ reply. accepted fleet.now.tree me from message.now self.old ≡ record { node = self.new; answer = reply_answer reply }) }
+        ensures accepted { IfOk result (λ reply. after_message fleet.now.tree me from message.now self.old ≡ record { node = self.new; answer = reply_answer reply }) }
         ensures counted { IfOk result (λ reply. IfSome reply IsCounted) }
         ensures fits { IfOk result (λ reply. IfSome reply Within) }
         ensures err { OnErr result (self.new ≡ self.old) }
@@ -436,7 +436,7 @@ impl Node {
         requires next { seq ≡ jobs_held self.old.records }
         requires few { jobs_held self.old.records < most_jobs }
         requires fits { JobFits job.now }
-        ensures ok { OnOk result (self.new ≡ with_record (if self.old.minion then done seq job.now id.now self.old.held else Intake job.now) self.old) }
+        ensures ok { OnOk result (self.new ≡ with_record (if self.old.minion then job_record seq job.now id.now self.old.held else Intake job.now) self.old) }
         ensures err { OnErr result (self.new ≡ self.old) }
     {
         if self.is_minion() {
@@ -452,7 +452,7 @@ impl Node {
         requires next { seq ≡ jobs_held self.old.records }
         requires few { jobs_held self.old.records < most_jobs }
         requires fits { JobFits job.now }
-        ensures ok { OnOk result (self.new ≡ with_record (done seq job.now id.now self.old.held) self.old) }
+        ensures ok { OnOk result (self.new ≡ with_record (job_record seq job.now id.now self.old.held) self.old) }
         ensures err { OnErr result (self.new ≡ self.old) }
     {
         let Logs::Own(core) = &mut self.logs else {

@@ -10,7 +10,7 @@ ghost use Rattle.salt_wire.specs.declared.deed.Deed.TheVariants.{Up};
 
 use crate::logs::push_below;
 use indexmap::IndexMap;
-use minion_core::{MinionCore, done};
+use minion_core::{MinionCore, job_record};
 use salt_value::MinionId;
 use salt_wire::{Deed, Entries, Entry, Job};
 use std::alloc::{AllocError, Global};
@@ -107,13 +107,13 @@ pub fn push_run(
 ) -> Result<(), AllocError>
     requires fits { JobFits job.now }
     requires room { core.old.jobs + 1 < 2 ^ 32 }
-    ensures records { OnOk result (records.new.items ≡ records.old.items ++ flat.done seq job.now id.now core.old.held ∷ []) }
-    ensures core { OnOk result (core.new ≡ core_after (flat.done seq job.now id.now core.old.held) core.old) }
-    ensures few { OnOk result (length (flat.entries_in (flat.done seq job.now id.now core.old.held)) ≤ 2) }
-    ensures fits { OnOk result (DeedFits (flat.done seq job.now id.now core.old.held)) }
+    ensures records { OnOk result (records.new.items ≡ records.old.items ++ flat.job_record seq job.now id.now core.old.held ∷ []) }
+    ensures core { OnOk result (core.new ≡ core_after (flat.job_record seq job.now id.now core.old.held) core.old) }
+    ensures few { OnOk result (length (flat.entries_in (flat.job_record seq job.now id.now core.old.held)) ≤ 2) }
+    ensures fits { OnOk result (DeedFits (flat.job_record seq job.now id.now core.old.held)) }
     ensures kept_records { OnErr result (records.new.items ≡ records.old.items) }
     ensures kept_core { OnErr result (core.new ≡ core.old) }
 {
-    let deed = done(alloc, seq, job, id, core.held())?;
+    let deed = job_record(alloc, seq, job, id, core.held())?;
     push_done(records, core, deed)
 }

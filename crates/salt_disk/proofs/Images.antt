@@ -6,10 +6,10 @@ use Rattle.std.proofs.lemmas.Bool.Decides.{nat_tests}
 use Rattle.salt_disk.specs.declared.disk.Part.{Part}
 use Rattle.salt_disk.specs.declared.disk.Part.TheVariants.{Root, Even, Odd}
 use Rattle.salt_disk.specs.declared.disk.Range.{Range}
-use Rattle.salt_disk.specs.Disk.{PartState, DiskState, part_of, settled, IsHonest}
+use Rattle.salt_disk.specs.Disk.{PartState, DiskState, part_of, settled_part, IsHonest}
 use Rattle.salt_disk.specs.Crash.{Image, IsWithin, IsPartImage, MayLeave, LeavesTheSame}
 use Rattle.salt_disk.specs.Memory.{HasPlace}
-use Rattle.salt_disk.specs.History.{with_part, emptied, is_calm}
+use Rattle.salt_disk.specs.History.{with_part, after_cut, is_calm}
 use Rattle.salt_disk.proofs.Torn.{settled_image}
 use Rattle.salt_disk.proofs.Record.{with_same}
 
@@ -51,12 +51,12 @@ part_with Even disk value = refl
 part_with Odd disk value = refl
 
 -- a cut of a part that could not be empty
-pub cut_changes : (part : Part) (old new : DiskState) → IsHonest old → 0 < (part_of old part).least → new ≡ with_part old part (emptied (part_of old part)) → LeavesTheSame old new → ⊥
+pub cut_changes : (part : Part) (old new : DiskState) → IsHonest old → 0 < (part_of old part).least → new ≡ with_part old part (after_cut (part_of old part)) → LeavesTheSame old new → ⊥
 cut_changes part old new honest some is same =
     let image : Image = λ p. (part_of old p).bytes in
     let left : MayLeave new (file_image part [] image) =
     subst (λ (d : DiskState). MayLeave d (file_image part [] image)) (sym is)
-    (may_with part old (emptied (part_of old part)) [] image (as_it_reads old honest) (record { no_shorter = omega arith; no_longer = omega arith; kept = λ place below outside. absurd (omega (arith, below)) })) in
+    (may_with part old (after_cut (part_of old part)) [] image (as_it_reads old honest) (record { no_shorter = omega arith; no_longer = omega arith; kept = λ place below outside. absurd (omega (arith, below)) })) in
     let here : IsPartImage (part_of old part) [] = subst (λ (l : List ℕ). IsPartImage (part_of old part) l) (file_here part [] image) (same.earlier (file_image part [] image) left part) in
     omega (arith, here.no_shorter, some)
 
@@ -117,14 +117,14 @@ module _ (part : PartState) (no_more : part.least ≤ length part.bytes) (no_les
       (cases_lt part.least (length part.bytes))
 
 -- a sync of a part with something pending
-pub sync_changes : (part : Part) (old new : DiskState) → IsHonest old → HasPlace (part_of old part) → is_calm (part_of old part) ≡ false → new ≡ with_part old part (settled (part_of old part).bytes) → LeavesTheSame old new → ⊥
+pub sync_changes : (part : Part) (old new : DiskState) → IsHonest old → HasPlace (part_of old part) → is_calm (part_of old part) ≡ false → new ≡ with_part old part (settled_part (part_of old part).bytes) → LeavesTheSame old new → ⊥
 sync_changes part old new honest place pending is same =
     let image : Image = λ p. (part_of old p).bytes in
     let bytes = (part_of old part).bytes in
     let one = other_image (part_of old part) (honest part).0 (honest part).1 place pending in
     let before : MayLeave old (file_image part one.file image) =
     subst (λ (d : DiskState). MayLeave d (file_image part one.file image)) (with_same old part) (may_with part old (part_of old part) one.file image (as_it_reads old honest) one.left) in
-    let after : IsPartImage (settled bytes) one.file =
-    subst (λ (p : PartState). IsPartImage p one.file) (ap (λ (d : DiskState). part_of d part) is ∙ part_with part old (settled bytes))
+    let after : IsPartImage (settled_part bytes) one.file =
+    subst (λ (p : PartState). IsPartImage p one.file) (ap (λ (d : DiskState). part_of d part) is ∙ part_with part old (settled_part bytes))
     (subst (λ (l : List ℕ). IsPartImage (part_of new part) l) (file_here part one.file image) (same.later (file_image part one.file image) before part)) in
     one.other (settled_image bytes one.file after)

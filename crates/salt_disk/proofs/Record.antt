@@ -10,10 +10,10 @@ use Rattle.salt_disk.specs.declared.disk.Part.TheVariants.{Root, Even, Odd}
 use Rattle.salt_disk.specs.declared.call.Call.{Call}
 use Rattle.salt_disk.specs.declared.call.Call.TheVariants.{Write, Cut, Sync}
 use Rattle.salt_disk.specs.declared.disk.Range.{Range}
-use Rattle.salt_disk.specs.Disk.{PartState, DiskState, part_of, settled, put, ranges_of, IsWritten, Changes, IsHonest}
+use Rattle.salt_disk.specs.Disk.{PartState, DiskState, part_of, settled_part, put, ranges_of, IsWritten, Changes, IsHonest}
 use Rattle.salt_disk.specs.Crash.{Image, IsWithin, IsPartImage, MayLeave, LeavesTheSame}
 use Rattle.salt_disk.specs.Memory.{IsPicked}
-use Rattle.salt_disk.specs.History.{with_part, wrote, emptied, step, states, replay, LeadsTo, Replays, is_calm, owed, owed_by, is_write, IsBounded, IsRecorded}
+use Rattle.salt_disk.specs.History.{with_part, wrote, after_cut, step, states, replay, LeadsTo, Replays, is_calm, entries_owed, owed_by, is_write, IsBounded, IsRecorded}
 use Rattle.salt_disk.proofs.Moments.{leaves_itself}
 use Rattle.salt_disk.proofs.Torn.{length-put}
 
@@ -183,9 +183,9 @@ leads_write at bytes replayed part within leads = record {
   greatest = ap (λ (n : ℕ). max n (at + length bytes)) leads.greatest;
 }
 
-leads_settled : (bytes replayed : List ℕ) → bytes ≡ take (length bytes) replayed → LeadsTo (settled (take (length bytes) replayed)) (settled bytes)
+leads_settled : (bytes replayed : List ℕ) → bytes ≡ take (length bytes) replayed → LeadsTo (settled_part (take (length bytes) replayed)) (settled_part bytes)
 leads_settled bytes replayed is =
-    subst (λ (l : List ℕ). LeadsTo (settled l) (settled bytes)) is (record { bytes = sym (take_all (length bytes) bytes (omega arith)); unsure = refl; least = refl; greatest = refl })
+    subst (λ (l : List ℕ). LeadsTo (settled_part l) (settled_part bytes)) is (record { bytes = sym (take_all (length bytes) bytes (omega arith)); unsure = refl; least = refl; greatest = refl })
 
 pub changes_with : (part : Part) (go : PartState → PartState → Type 0) (old new : DiskState) (value : PartState) → new ≡ with_part old part value → go (part_of old part) value → Changes part go old new
 changes_with Root go old new value is gone = record {
@@ -204,37 +204,37 @@ changes_with Odd go old new value is gone = record {
 pub is_written : (at : ℕ) (bytes : List ℕ) (part : PartState) → at ≤ length part.bytes → IsWritten at bytes part (wrote part at bytes)
 is_written at bytes part within = record { unsure = refl; least = refl; greatest = refl; elsewhere = λ place away. put_elsewhere at bytes part.bytes place within away }
 
-owed_most : (part : PartState) → owed part ≤ 3
+owed_most : (part : PartState) → entries_owed part ≤ 3
 owed_most part = grind (arith, nat_tests)
 
 pub owed_by_most : (disk : DiskState) → owed_by disk ≤ 9
 owed_by_most disk = omega (arith, owed_most disk.root, owed_most disk.even, owed_most disk.odd)
 
-owed_emptied : (part : PartState) → 0 < length part.bytes → owed (emptied part) + 1 ≤ owed part
+owed_emptied : (part : PartState) → 0 < length part.bytes → entries_owed (after_cut part) + 1 ≤ entries_owed part
 owed_emptied part some = grind (arith, nat_tests)
 
-owed_unseen : (part : PartState) → part.least ≡ 0 → owed (emptied part) ≤ owed part
+owed_unseen : (part : PartState) → part.least ≡ 0 → entries_owed (after_cut part) ≤ entries_owed part
 owed_unseen part none = grind (arith, nat_tests)
 
-owed_settled : (part : PartState) → is_calm part ≡ false → owed (settled part.bytes) + 1 ≤ owed part
+owed_settled : (part : PartState) → is_calm part ≡ false → entries_owed (settled_part part.bytes) + 1 ≤ entries_owed part
 owed_settled part pending = grind (arith, nat_tests)
 
-pub owed_cut : (disk : DiskState) (part : Part) → 0 < length (part_of disk part).bytes → owed_by (with_part disk part (emptied (part_of disk part))) + 1 ≤ owed_by disk
+pub owed_cut : (disk : DiskState) (part : Part) → 0 < length (part_of disk part).bytes → owed_by (with_part disk part (after_cut (part_of disk part))) + 1 ≤ owed_by disk
 owed_cut disk Root some = omega (arith, owed_emptied disk.root some)
 owed_cut disk Even some = omega (arith, owed_emptied disk.even some)
 owed_cut disk Odd some = omega (arith, owed_emptied disk.odd some)
 
-pub owed_cut_unseen : (disk : DiskState) (part : Part) → (part_of disk part).least ≡ 0 → owed_by (with_part disk part (emptied (part_of disk part))) ≤ owed_by disk
+pub owed_cut_unseen : (disk : DiskState) (part : Part) → (part_of disk part).least ≡ 0 → owed_by (with_part disk part (after_cut (part_of disk part))) ≤ owed_by disk
 owed_cut_unseen disk Root none = omega (arith, owed_unseen disk.root none)
 owed_cut_unseen disk Even none = omega (arith, owed_unseen disk.even none)
 owed_cut_unseen disk Odd none = omega (arith, owed_unseen disk.odd none)
 
-pub owed_sync : (disk : DiskState) (part : Part) → is_calm (part_of disk part) ≡ false → owed_by (with_part disk part (settled (part_of disk part).bytes)) + 1 ≤ owed_by disk
+pub owed_sync : (disk : DiskState) (part : Part) → is_calm (part_of disk part) ≡ false → owed_by (with_part disk part (settled_part (part_of disk part).bytes)) + 1 ≤ owed_by disk
 owed_sync disk Root pending = omega (arith, owed_settled disk.root pending)
 owed_sync disk Even pending = omega (arith, owed_settled disk.even pending)
 owed_sync disk Odd pending = omega (arith, owed_settled disk.odd pending)
 
-pub calm_settled : (part : PartState) → part.least ≤ length part.bytes → length part.bytes ≤ part.greatest → is_calm part ≡ true → part ≡ settled part.bytes
+pub calm_settled : (part : PartState) → part.least ≤ length part.bytes → length part.bytes ≤ part.greatest → is_calm part ≡ true → part ≡ settled_part part.bytes
 calm_settled part no_more no_less calm =
     let unsure : part.unsure ≡ [] = nil_from_length part.unsure (grind (arith, nat_tests)) in
     let same : part.least ≡ part.greatest = grind (arith, nat_tests) in
@@ -242,7 +242,7 @@ calm_settled part no_more no_less calm =
     let greatest : part.greatest ≡ length part.bytes = omega arith in
     λ i. record { bytes = part.bytes; unsure = unsure i; least = least i; greatest = greatest i }
 
-pub calm_sync : (disk : DiskState) (part : Part) → IsHonest disk → is_calm (part_of disk part) ≡ true → disk ≡ with_part disk part (settled (part_of disk part).bytes)
+pub calm_sync : (disk : DiskState) (part : Part) → IsHonest disk → is_calm (part_of disk part) ≡ true → disk ≡ with_part disk part (settled_part (part_of disk part).bytes)
 calm_sync disk part honest calm = sym (with_same disk part) ∙ ap (λ (p : PartState). with_part disk part p) (calm_settled (part_of disk part) (honest part).0 (honest part).1 calm)
 
 pub picked_image : (pick cut : ℕ) (part : PartState) (file : List ℕ) → part.least ≤ part.greatest → IsPicked pick cut part file → IsPartImage part file
@@ -276,28 +276,28 @@ write_bounded part at bytes old new value calls is first within =
     omega (arith, within, ap owed_by is, owed_with old part value, length-append calls (Write part at bytes ∷ []), writes-push calls (Write part at bytes))
 
 -- a cut and its entry
-pub cut_goes : (part : Part) (old new : DiskState) → new ≡ with_part old part (emptied (part_of old part)) → (replayed : DiskState) → Replays replayed old → Replays (step replayed (Cut part)) new
+pub cut_goes : (part : Part) (old new : DiskState) → new ≡ with_part old part (after_cut (part_of old part)) → (replayed : DiskState) → Replays replayed old → Replays (step replayed (Cut part)) new
 cut_goes part old new is replayed leads =
     subst (λ (d : DiskState). Replays (step replayed (Cut part)) d) (sym is)
-    (leads_with part replayed old (emptied (part_of replayed part)) (emptied (part_of old part)) leads (record { bytes = refl; unsure = (leads part).unsure; least = refl; greatest = (leads part).greatest }))
+    (leads_with part replayed old (after_cut (part_of replayed part)) (after_cut (part_of old part)) leads (record { bytes = refl; unsure = (leads part).unsure; least = refl; greatest = (leads part).greatest }))
 
 pub cut_bounded : (part : Part) (old new : DiskState) (calls : List Call) → owed_by new + 1 ≤ owed_by old → (first : DiskState) → IsBounded first calls old → IsBounded first (calls ++ Cut part ∷ []) new
 cut_bounded part old new calls less first within = omega (arith, within, less, length-append calls (Cut part ∷ []), writes-push calls (Cut part))
 
 -- a cut of a part whose least length is 0 already changes no image
-pub cut_unseen : (part : Part) (old new : DiskState) → (part_of old part).least ≡ 0 → new ≡ with_part old part (emptied (part_of old part)) → (replayed : DiskState) → Replays replayed old → Replays replayed new
+pub cut_unseen : (part : Part) (old new : DiskState) → (part_of old part).least ≡ 0 → new ≡ with_part old part (after_cut (part_of old part)) → (replayed : DiskState) → Replays replayed old → Replays replayed new
 cut_unseen part old new none is replayed leads =
     subst (λ (d : DiskState). Replays d new) (with_same replayed part)
     (subst (λ (d : DiskState). Replays (with_part replayed part (part_of replayed part)) d) (sym is)
-    (leads_with part replayed old (part_of replayed part) (emptied (part_of old part)) leads
+    (leads_with part replayed old (part_of replayed part) (after_cut (part_of old part)) leads
     (record { bytes = refl; unsure = (leads part).unsure; least = sym none ∙ (leads part).least; greatest = (leads part).greatest })))
 
 -- a sync and its entry
-pub sync_goes : (part : Part) (count : ℕ) (old new : DiskState) → count ≡ length (part_of old part).bytes → new ≡ with_part old part (settled (part_of old part).bytes) → (replayed : DiskState) → Replays replayed old → Replays (step replayed (Sync part count)) new
+pub sync_goes : (part : Part) (count : ℕ) (old new : DiskState) → count ≡ length (part_of old part).bytes → new ≡ with_part old part (settled_part (part_of old part).bytes) → (replayed : DiskState) → Replays replayed old → Replays (step replayed (Sync part count)) new
 sync_goes part count old new counts is replayed leads =
     subst (λ (d : DiskState). Replays (step replayed (Sync part count)) d) (sym is)
-    (subst (λ (n : ℕ). Replays (step replayed (Sync part n)) (with_part old part (settled (part_of old part).bytes))) (sym counts)
-    (leads_with part replayed old (settled (take (length (part_of old part).bytes) (part_of replayed part).bytes)) (settled (part_of old part).bytes) leads (leads_settled (part_of old part).bytes (part_of replayed part).bytes (leads part).bytes)))
+    (subst (λ (n : ℕ). Replays (step replayed (Sync part n)) (with_part old part (settled_part (part_of old part).bytes))) (sym counts)
+    (leads_with part replayed old (settled_part (take (length (part_of old part).bytes) (part_of replayed part).bytes)) (settled_part (part_of old part).bytes) leads (leads_settled (part_of old part).bytes (part_of replayed part).bytes (leads part).bytes)))
 
 pub sync_bounded : (part : Part) (count : ℕ) (old new : DiskState) (calls : List Call) → owed_by new + 1 ≤ owed_by old → (first : DiskState) → IsBounded first calls old → IsBounded first (calls ++ Sync part count ∷ []) new
 sync_bounded part count old new calls less first within = omega (arith, within, less, length-append calls (Sync part count ∷ []), writes-push calls (Sync part count))
@@ -308,15 +308,15 @@ same_recorded old new calls is = subst (λ (d : DiskState). IsRecorded old d cal
     (not_recorded old old calls (λ replayed leads. leads) (leaves_itself old) (omega arith))
 
 -- a cut of such a part leaves what a crash could leave before
-pub cut_same : (part : Part) (old new : DiskState) → (part_of old part).least ≡ 0 → new ≡ with_part old part (emptied (part_of old part)) → LeavesTheSame old new
+pub cut_same : (part : Part) (old new : DiskState) → (part_of old part).least ≡ 0 → new ≡ with_part old part (after_cut (part_of old part)) → LeavesTheSame old new
 cut_same part old new none is = subst (λ (d : DiskState). LeavesTheSame old d) (sym is) (record {
-  later = λ image may. with_image part old (emptied (part_of old part)) image may (record { no_shorter = omega arith; no_longer = (may part).no_longer; kept = λ place below outside. absurd (omega (arith, below)) });
-  earlier = λ image may. let here = with_here part old (emptied (part_of old part)) image may in
-      without_image part old (emptied (part_of old part)) image may (record { no_shorter = omega (arith, none); no_longer = here.no_longer; kept = λ place below outside. absurd (omega (arith, below, none)) });
+  later = λ image may. with_image part old (after_cut (part_of old part)) image may (record { no_shorter = omega arith; no_longer = (may part).no_longer; kept = λ place below outside. absurd (omega (arith, below)) });
+  earlier = λ image may. let here = with_here part old (after_cut (part_of old part)) image may in
+      without_image part old (after_cut (part_of old part)) image may (record { no_shorter = omega (arith, none); no_longer = here.no_longer; kept = λ place below outside. absurd (omega (arith, below, none)) });
 })
 
-pub length_synced : (part : Part) (old new : DiskState) → new ≡ with_part old part (settled (part_of old part).bytes) → length (part_of new part).bytes ≡ length (part_of old part).bytes
-length_synced part old new is = ap (λ (d : DiskState). length (part_of d part).bytes) is ∙ length_here part old (settled (part_of old part).bytes)
+pub length_synced : (part : Part) (old new : DiskState) → new ≡ with_part old part (settled_part (part_of old part).bytes) → length (part_of new part).bytes ≡ length (part_of old part).bytes
+length_synced part old new is = ap (λ (d : DiskState). length (part_of d part).bytes) is ∙ length_here part old (settled_part (part_of old part).bytes)
   where
     length_here : (part : Part) (disk : DiskState) (value : PartState) → length (part_of (with_part disk part value) part).bytes ≡ length value.bytes
     length_here Root disk value = refl

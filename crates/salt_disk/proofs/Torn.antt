@@ -6,7 +6,7 @@ use Rattle.salt_disk.specs.declared.disk.Part.TheVariants.{Root, Even, Odd}
 use Rattle.salt_disk.specs.declared.disk.DiskFault.{DiskFault}
 use Rattle.salt_disk.specs.declared.disk.DiskFault.TheVariants.{NoMemory, Failed}
 use Rattle.salt_disk.specs.declared.disk.Range.{Range}
-use Rattle.salt_disk.specs.Disk.{PartState, DiskState, part_of, settled, IsSettled, put, ranges_of, IsWritten, Changes, Stays, IsHonest, UnlessNoMemory}
+use Rattle.salt_disk.specs.Disk.{PartState, DiskState, part_of, settled_part, IsSettled, put, ranges_of, IsWritten, Changes, Stays, IsHonest, UnlessNoMemory}
 use Rattle.salt_disk.specs.Crash.{Image, IsWithin, IsPartImage, MayLeave, IsTorn, OthersMayLeave, WritesOnly, OthersStay}
 
 pub unless_either : {T : Type 0} (r : Result T DiskFault) (A B : Type 0) → UnlessNoMemory r A B → A ⊎ B
@@ -28,7 +28,7 @@ on_ok (Ok value) A B f a = f a
 on_ok (Err e) A B f a = a
 
 -- a settled part leaves its bytes alone
-pub settled_image : (bytes file : List ℕ) → IsPartImage (settled bytes) file → file ≡ bytes
+pub settled_image : (bytes file : List ℕ) → IsPartImage (settled_part bytes) file → file ≡ bytes
 settled_image bytes file image =
     ext_get_or 0 file bytes (omega (arith, image.no_shorter, image.no_longer)) (λ i within. image.kept i (omega (arith, image.no_longer, within)) (λ none. none))
 
@@ -118,7 +118,7 @@ module _ (part : Part) (at : ℕ) (bytes : List ℕ) (old : DiskState) (is_settl
     others = others_from new image changes.others may;
   }
 
-  pub after_write : (new : DiskState) (image : Image) → part_of new part ≡ settled (put at bytes (part_of old part).bytes) → OthersStay part old new → MayLeave new image → WritesOnly part at (length bytes) old image
+  pub after_write : (new : DiskState) (image : Image) → part_of new part ≡ settled_part (put at bytes (part_of old part).bytes) → OthersStay part old new → MayLeave new image → WritesOnly part at (length bytes) old image
   after_write new image here stay may = record {
     here = subst (λ (l : List ℕ). IsTorn at (length bytes) (part_of old part).bytes l) (sym (settled_image (put at bytes (part_of old part).bytes) (image part) (subst (λ (p : PartState). IsPartImage p (image part)) here (may part)))) (torn_put at bytes (part_of old part).bytes within);
     others = others_from new image stay may;
@@ -133,11 +133,11 @@ module _ (part : Part) (at : ℕ) (bytes : List ℕ) (old : DiskState) (is_settl
 
   -- and after the sync, however it answered
   pub second_call : {T E : Type 0} (r : Result T E) (mid new : DiskState) (past since : List DiskState) → Changes part (IsWritten at bytes) old mid → (part_of mid part).bytes ≡ put at bytes (part_of old part).bytes
-      → OnOk r (Changes part (λ o n. n ≡ settled o.bytes) mid new) → OnErr r (Stays mid new past since) → (image : Image) → MayLeave new image → WritesOnly part at (length bytes) old image
+      → OnOk r (Changes part (λ o n. n ≡ settled_part o.bytes) mid new) → OnErr r (Stays mid new past since) → (image : Image) → MayLeave new image → WritesOnly part at (length bytes) old image
   second_call r mid new past since changes is_put synced failed image may =
-      ⊎_elim (λ (done : Changes part (λ o n. n ≡ settled o.bytes) mid new). after_write new image (done.here ∙ ap settled is_put) (λ other ne. done.others other ne ∙ changes.others other ne) may)
+      ⊎_elim (λ (done : Changes part (λ o n. n ≡ settled_part o.bytes) mid new). after_write new image (done.here ∙ ap settled_part is_put) (λ other ne. done.others other ne ∙ changes.others other ne) may)
       (λ (stays : Stays mid new past since). during_write mid image changes (subst (λ (d : DiskState). MayLeave d image) stays.state may))
-      (ok_or_err r (Changes part (λ o n. n ≡ settled o.bytes) mid new) (Stays mid new past since) synced failed)
+      (ok_or_err r (Changes part (λ o n. n ≡ settled_part o.bytes) mid new) (Stays mid new past since) synced failed)
 
 part_cases : (p q : Part) → (p ≡ q) ⊎ (p ≢ q)
 part_cases Root Root = inl refl
@@ -151,7 +151,7 @@ part_cases Odd Even = inr (λ e. absurd (cc))
 part_cases Odd Odd = inl refl
 
 -- what a synced disk leaves, it could leave before
-pub synced_image : (part : Part) (old new : DiskState) (image : Image) → IsHonest old → Changes part (λ o n. n ≡ settled o.bytes) old new → MayLeave new image → MayLeave old image
+pub synced_image : (part : Part) (old new : DiskState) (image : Image) → IsHonest old → Changes part (λ o n. n ≡ settled_part o.bytes) old new → MayLeave new image → MayLeave old image
 synced_image part old new image honest synced may = λ p. ⊎_elim
     (λ (same : p ≡ part). subst (λ (q : Part). IsPartImage (part_of old q) (image q)) (sym same) here)
     (λ (other : p ≢ part). subst (λ (s : PartState). IsPartImage s (image p)) (synced.others p other) (may p))

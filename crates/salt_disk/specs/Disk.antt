@@ -26,12 +26,12 @@ part_of disk Even = disk.even
 part_of disk Odd = disk.odd
 
 -- a part with these bytes, and nothing pending
-abbrev pub settled : List ℕ → PartState
-settled bytes = record { bytes = bytes; unsure = []; least = length bytes; greatest = length bytes }
+abbrev pub settled_part : List ℕ → PartState
+settled_part bytes = record { bytes = bytes; unsure = []; least = length bytes; greatest = length bytes }
 
 -- nothing is pending on the part: a crash leaves what a read gives
 abbrev pub IsSettled : PartState → Type 0
-IsSettled part = part ≡ settled part.bytes
+IsSettled part = part ≡ settled_part part.bytes
 
 -- these bytes at this place, in the place of what is there
 abbrev pub put : ℕ → List ℕ → List ℕ → List ℕ

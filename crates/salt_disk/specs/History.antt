@@ -4,7 +4,7 @@ use Rattle.salt_disk.specs.declared.disk.Part.{Part}
 use Rattle.salt_disk.specs.declared.disk.Part.TheVariants.{Root, Even, Odd}
 use Rattle.salt_disk.specs.declared.call.Call.{Call}
 use Rattle.salt_disk.specs.declared.call.Call.TheVariants.{Write, Cut, Sync}
-use Rattle.salt_disk.specs.Disk.{PartState, DiskState, part_of, settled, put, ranges_of}
+use Rattle.salt_disk.specs.Disk.{PartState, DiskState, part_of, settled_part, put, ranges_of}
 use Rattle.salt_disk.specs.Crash.{PassesTime}
 
 -- the disk with this state of one part
@@ -23,14 +23,14 @@ wrote part at bytes = record {
 }
 
 -- a part after a cut
-abbrev pub emptied : PartState → PartState
-emptied part = record { bytes = []; unsure = part.unsure; least = 0; greatest = part.greatest }
+abbrev pub after_cut : PartState → PartState
+after_cut part = record { bytes = []; unsure = part.unsure; least = 0; greatest = part.greatest }
 
 -- the disk after a call of the record
 abbrev pub step : DiskState → Call → DiskState
 step disk (Write part at bytes) = with_part disk part (wrote (part_of disk part) at bytes.items)
-step disk (Cut part) = with_part disk part (emptied (part_of disk part))
-step disk (Sync part count) = with_part disk part (settled (take count (part_of disk part).bytes))
+step disk (Cut part) = with_part disk part (after_cut (part_of disk part))
+step disk (Sync part count) = with_part disk part (settled_part (take count (part_of disk part).bytes))
 
 -- the state before each call
 abbrev pub states : DiskState → List Call → List DiskState
@@ -55,19 +55,19 @@ Replays replayed disk = (part : Part) → LeadsTo (part_of replayed part) (part_
 
 -- a disk of these bytes, with nothing pending
 abbrev pub whole : List ℕ → List ℕ → List ℕ → DiskState
-whole root even odd = record { root = settled root; even = settled even; odd = settled odd }
+whole root even odd = record { root = settled_part root; even = settled_part even; odd = settled_part odd }
 
 -- Whether nothing is pending. No public contract cites it.
 abbrev pub is_calm : PartState → Bool
 is_calm part = (length part.unsure == 0) && (part.least == part.greatest)
 
 -- How many entries the part may still need before its next write: a sync, a cut and a sync. No public contract cites it.
-abbrev pub owed : PartState → ℕ
-owed part = (if is_calm part then 0 else 1) + (if length part.bytes == 0 then 0 else 2)
+abbrev pub entries_owed : PartState → ℕ
+entries_owed part = (if is_calm part then 0 else 1) + (if length part.bytes == 0 then 0 else 2)
 
 -- The same over all parts. No public contract cites it.
 abbrev pub owed_by : DiskState → ℕ
-owed_by disk = owed disk.root + owed disk.even + owed disk.odd
+owed_by disk = entries_owed disk.root + entries_owed disk.even + entries_owed disk.odd
 
 -- Whether the call is a write. No public contract cites it.
 abbrev pub is_write : Call → Bool

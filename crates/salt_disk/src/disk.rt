@@ -1,7 +1,7 @@
 //! A disk of three files: the trait, its parts and its faults.
 ghost use Rattle.std.specs.Prelude.{◌≡◌, ◌⊎◌, ◌≤◌, ◌-◌, ◌+◌, List, ℕ, [], ◌∷◌, ◌++◌, length, take, drop, min, IfOk, OnOk, OnErr, IsErrOf};
 ghost use Rattle.salt_disk.specs.declared.disk.DiskFault.TheVariants.{NoMemory};
-ghost use Rattle.salt_disk.specs.Disk.{DiskState, PartState, part_of, settled, put, IsWritten, IsEmptied, Changes, Stays, IsHonest, read_from, UnlessNoMemory};
+ghost use Rattle.salt_disk.specs.Disk.{DiskState, PartState, part_of, settled_part, put, IsWritten, IsEmptied, Changes, Stays, IsHonest, read_from, UnlessNoMemory};
 ghost use Rattle.salt_disk.specs.Crash.{PassesTime, LeavesTheSame};
 ghost use Rattle.salt_outside.specs.Causes.{CountsFaults};
 ghost use Rattle.salt_disk.specs.declared.disk.Fuse.{Fuse};
@@ -120,7 +120,7 @@ pub trait Disk {
 
     /// Brings the part to rest: after it, a crash leaves what a read gives. After `Failed` all is as it was.
     fn sync(&mut self, part: Part) -> Result<(), DiskFault>
-        ensures ok { is_told → OnOk result (Changes part (λ old new. new ≡ settled old.bytes) (state self.old) (state self.new)) }
+        ensures ok { is_told → OnOk result (Changes part (λ old new. new ≡ settled_part old.bytes) (state self.old) (state self.new)) }
         ensures err { is_told → OnErr result (Stays (state self.old) (state self.new) (past self.old) (past self.new)) }
         ensures time { is_told → PassesTime (state self.old) (state self.new) (past self.old) (past self.new) }
         ensures still { is_told → LeavesTheSame (state self.old) (state self.new) → past self.new ≡ past self.old }

@@ -1,8 +1,8 @@
 //! A disk in memory. It keeps a record of its changing calls, from which what a crash might have left follows.
 ghost use Rattle.std.specs.Prelude.{◌≡◌, ◌≢◌, ◌≤◌, ◌+◌, [], length, vec_len, vec_capacity, OnOk, OnErr};
-ghost use Rattle.salt_disk.specs.Disk.{part_of, settled, IsSettled};
+ghost use Rattle.salt_disk.specs.Disk.{part_of, settled_part, IsSettled};
 ghost use Rattle.salt_disk.specs.Crash.{MayLeave, LeavesTheSame};
-ghost use Rattle.salt_disk.specs.History.{states, replay, owed_by, whole, with_part, wrote, emptied, Replays, IsRecorded, IsBounded};
+ghost use Rattle.salt_disk.specs.History.{states, replay, owed_by, whole, with_part, wrote, after_cut, Replays, IsRecorded, IsBounded};
 ghost use Rattle.salt_disk.specs.Memory.{part_state, parts_state, honest_parts, IsPicked};
 
 use crate::call::Call;
@@ -112,7 +112,7 @@ impl MemDisk {
 
 // A part of these bytes, with nothing pending.
 fn whole_part(alloc: Global, bytes: Vec<u8>) -> MemPart
-    ensures { part_state result ≡ settled bytes.items }
+    ensures { part_state result ≡ settled_part bytes.items }
 {
     let len = bytes.len() as u64;
     MemPart {
@@ -147,7 +147,7 @@ fn write_part(
 
 fn cut_part(parts: &mut Parts, calls: &mut Vec<Call>, part: Part)
     requires room { vec_len calls.old + owed_by (parts_state parts.old) ≤ vec_capacity calls.old }
-    ensures state { parts_state parts.new ≡ with_part (parts_state parts.old) part (emptied (part_of (parts_state parts.old) part)) }
+    ensures state { parts_state parts.new ≡ with_part (parts_state parts.old) part (after_cut (part_of (parts_state parts.old) part)) }
     ensures recorded { IsRecorded (parts_state parts.old) (parts_state parts.new) calls.old.items calls.new.items }
     ensures still { LeavesTheSame (parts_state parts.old) (parts_state parts.new) → calls.new.items ≡ calls.old.items }
     ensures room { vec_len calls.new + owed_by (parts_state parts.new) ≤ vec_capacity calls.new }
@@ -161,7 +161,7 @@ fn cut_part(parts: &mut Parts, calls: &mut Vec<Call>, part: Part)
 
 fn sync_part(parts: &mut Parts, calls: &mut Vec<Call>, part: Part)
     requires room { vec_len calls.old + owed_by (parts_state parts.old) ≤ vec_capacity calls.old }
-    ensures state { parts_state parts.new ≡ with_part (parts_state parts.old) part (settled (part_of (parts_state parts.old) part).bytes) }
+    ensures state { parts_state parts.new ≡ with_part (parts_state parts.old) part (settled_part (part_of (parts_state parts.old) part).bytes) }
     ensures recorded { IsRecorded (parts_state parts.old) (parts_state parts.new) calls.old.items calls.new.items }
     ensures still { LeavesTheSame (parts_state parts.old) (parts_state parts.new) → calls.new.items ≡ calls.old.items }
     ensures room { vec_len calls.new + owed_by (parts_state parts.new) ≤ vec_capacity calls.new }

@@ -1,9 +1,9 @@
 //! The three parts of a disk in memory.
 ghost use Rattle.std.specs.Prelude.{◌≡◌, ◌≤◌, ◌<◌, ◌+◌, ◌-◌, ◌^◌, ◌⊎◌, ℕ, [], ◌++◌, length, drop, min, true, false, OnOk, OnErr, IfOk, slice_get, slice_index, vec_len, vec_capacity};
 ghost use Rattle.std.specs.Option.{ForSome};
-ghost use Rattle.salt_disk.specs.Disk.{part_of, settled, put, ranges_of, read_from};
+ghost use Rattle.salt_disk.specs.Disk.{part_of, settled_part, put, ranges_of, read_from};
 ghost use Rattle.salt_disk.specs.Crash.{IsWithin};
-ghost use Rattle.salt_disk.specs.History.{with_part, wrote, emptied, is_calm};
+ghost use Rattle.salt_disk.specs.History.{with_part, wrote, after_cut, is_calm};
 
 use crate::{Part, Range};
 use std::alloc::{AllocError, Global};
@@ -63,14 +63,14 @@ impl MemPart {
     }
 
     pub fn cut(&mut self)
-        ensures { part_state self.new ≡ emptied (part_state self.old) }
+        ensures { part_state self.new ≡ after_cut (part_state self.old) }
     {
         self.bytes.clear();
         self.least = 0;
     }
 
     pub fn sync(&mut self)
-        ensures { part_state self.new ≡ settled (part_state self.old).bytes }
+        ensures { part_state self.new ≡ settled_part (part_state self.old).bytes }
     {
         self.unsure.clear();
         self.least = self.bytes.len() as u64;
@@ -107,7 +107,7 @@ impl Parts {
     }
 
     pub fn cut(&mut self, part: Part)
-        ensures { parts_state self.new ≡ with_part (parts_state self.old) part (emptied (part_of (parts_state self.old) part)) }
+        ensures { parts_state self.new ≡ with_part (parts_state self.old) part (after_cut (part_of (parts_state self.old) part)) }
     {
         match part {
             Part::Root => self.root.cut(),
@@ -117,7 +117,7 @@ impl Parts {
     }
 
     pub fn sync(&mut self, part: Part)
-        ensures { parts_state self.new ≡ with_part (parts_state self.old) part (settled (part_of (parts_state self.old) part).bytes) }
+        ensures { parts_state self.new ≡ with_part (parts_state self.old) part (settled_part (part_of (parts_state self.old) part).bytes) }
     {
         match part {
             Part::Root => self.root.sync(),

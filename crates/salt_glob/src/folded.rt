@@ -1,7 +1,7 @@
 //! A pattern or a text as a matcher reads it.
 ghost use Rattle.std.specs.Prelude.{◌≡◌, ◌≢◌, ◌≤◌, ◌<◌, ◌^◌, ◌==◌, ℕ, List, nat_lt, length, drop, position, slice_index, slice_range, IfSome, IfNone};
 ghost use Rattle.std.specs.List.{list_any, list_all};
-ghost use Rattle.salt_glob.specs.Lowered.{lowered, folded};
+ghost use Rattle.salt_glob.specs.Lowered.{lower_case, matcher_bytes};
 
 use memchr::{memchr, memchr2};
 use std::marker::Model;
@@ -16,7 +16,7 @@ pub struct Folded<'a> {
 impl<'a> Model for Folded<'a> {
     ghost Value = { List ℕ };
 
-    ghost view = { λ s. folded s.is_caseless s.bytes.now };
+    ghost view = { λ s. matcher_bytes s.is_caseless s.bytes.now };
 }
 
 impl<'a> Folded<'a> {
@@ -32,7 +32,7 @@ impl<'a> Folded<'a> {
 
     #[inline(always)]
     pub fn caseless(bytes: &'a [u8]) -> Folded<'a>
-        ensures { result ≡ lowered bytes.now }
+        ensures { result ≡ lower_case bytes.now }
     {
         Folded {
             bytes,
@@ -144,8 +144,8 @@ fn are_stars(bytes: &[u8]) -> bool
 // A place before which no byte is read as this one, or None where none is.
 #[inline(always)]
 fn before(bytes: &[u8], byte: u8, is_caseless: bool) -> Option<usize>
-    ensures some { IfSome result (λ n. (n < length bytes.now) × ((k : ℕ) → k < n → slice_index (folded is_caseless bytes.now) k ≢ byte)) }
-    ensures none { IfNone result ((k : ℕ) → k < length bytes.now → slice_index (folded is_caseless bytes.now) k ≢ byte) }
+    ensures some { IfSome result (λ n. (n < length bytes.now) × ((k : ℕ) → k < n → slice_index (matcher_bytes is_caseless bytes.now) k ≢ byte)) }
+    ensures none { IfNone result ((k : ℕ) → k < length bytes.now → slice_index (matcher_bytes is_caseless bytes.now) k ≢ byte) }
 {
     if is_caseless {
         before_either(bytes, byte)
@@ -164,8 +164,8 @@ fn before_one(bytes: &[u8], byte: u8) -> Option<usize>
 
 #[inline(always)]
 fn before_either(bytes: &[u8], byte: u8) -> Option<usize>
-    ensures some { IfSome result (λ n. (n < length bytes.now) × ((k : ℕ) → k < n → slice_index (lowered bytes.now) k ≢ byte)) }
-    ensures none { IfNone result ((k : ℕ) → k < length bytes.now → slice_index (lowered bytes.now) k ≢ byte) }
+    ensures some { IfSome result (λ n. (n < length bytes.now) × ((k : ℕ) → k < n → slice_index (lower_case bytes.now) k ≢ byte)) }
+    ensures none { IfNone result ((k : ℕ) → k < length bytes.now → slice_index (lower_case bytes.now) k ≢ byte) }
 {
     memchr2(byte, byte.to_ascii_uppercase(), bytes)
 }

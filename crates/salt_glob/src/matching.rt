@@ -2,7 +2,7 @@
 ghost use Rattle.std.specs.Prelude.{◌≡◌, ◌≤◌, ◌<◌, ◌+◌, ◌==◌, None, Some, IfSome, IfNone, ◌↔◌, ℕ, nat_lt, [], length, drop, slice_index, IsTrue};
 ghost use Rattle.std.specs.List.{list_any, list_all};
 ghost use Rattle.salt_glob.specs.Globs as spec;
-ghost use Rattle.salt_glob.specs.Lowered.{lowered, glob_caseless};
+ghost use Rattle.salt_glob.specs.Lowered.{lower_case, glob_caseless};
 
 use crate::class::{class_at, is_member};
 use crate::folded::Folded;
@@ -181,7 +181,7 @@ pub fn glob(pattern: &[u8], text: &[u8]) -> bool
 /// `glob` with `A` to `Z` lowered in the pattern and in the text, also where they bound a range of a class: `[A-z]` has the
 /// bytes from `a` to `z`, and `[Z-a]` has none. It takes no memory, and at most as many steps as `glob`.
 pub fn glob_caseless(pattern: &[u8], text: &[u8]) -> bool
-    ensures ok { IsTrue result ↔ spec.Glob (lowered pattern.now) (lowered text.now) }
+    ensures ok { IsTrue result ↔ spec.Glob (lower_case pattern.now) (lower_case text.now) }
     ensures exact { result ≡ glob_caseless pattern.now text.now }
 {
     holds(&Folded::caseless(pattern), &Folded::caseless(text))

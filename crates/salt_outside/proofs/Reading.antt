@@ -2,7 +2,7 @@ use Rattle.std.proofs.Common.{◌≡◌, ℕ, ◌+◌, ◌<◌, ◌≤◌, List,
 use Rattle.std.specs.Prelude.{Option, None, Some}
 use Rattle.std.proofs.lemmas.List.{take-append-drop, length-take-le}
 use Rattle.std.proofs.Math.Seq.{take-append_seam, drop-drop}
-use Rattle.salt_outside.specs.Streams.{preceded, appended}
+use Rattle.salt_outside.specs.Streams.{left_before, contents_after}
 
 -- what was read stands before what is left
 pub reads_front : (bytes tail front : List ℕ) (at n : ℕ) → front ≡ take n (drop at bytes) → n ≤ length (drop at bytes)
@@ -13,11 +13,11 @@ reads_front bytes tail front at n e h =
     rw (seam, ← drop-drop n at bytes, e) (sym (take-append-drop n (drop at bytes)))
 
 -- a piece and then another
-pub preceded-preceded : (xs ys : List ℕ) (left : Option (List ℕ)) → preceded xs (preceded ys left) ≡ preceded (xs ++ ys) left
+pub preceded-preceded : (xs ys : List ℕ) (left : Option (List ℕ)) → left_before xs (left_before ys left) ≡ left_before (xs ++ ys) left
 preceded-preceded xs ys None = refl
 preceded-preceded xs ys (Some l) = ap Some (sym (append_assoc xs ys l))
 
-pub appended-appended : (held : Option (List ℕ)) (xs ys : List ℕ) → appended (appended held xs) ys ≡ appended held (xs ++ ys)
+pub appended-appended : (held : Option (List ℕ)) (xs ys : List ℕ) → contents_after (contents_after held xs) ys ≡ contents_after held (xs ++ ys)
 appended-appended None xs ys = refl
 appended-appended (Some h) xs ys = ap Some (append_assoc h xs ys)
 

@@ -1,6 +1,6 @@
 //! A source and a sink in memory, of which chosen calls fail.
 ghost use Rattle.std.specs.Prelude.{◌≡◌, ◌++◌, ◌<◌, ◌≤◌, ℕ, List, [], Option, Some, drop, length, take, min, IfOk, OnOk, OnErr, IsErrOf, IsOkUnless};
-ghost use Rattle.salt_outside.specs.Streams.{appended, preceded, IsPart, IsAtEnd};
+ghost use Rattle.salt_outside.specs.Streams.{contents_after, left_before, IsPart, IsAtEnd};
 
 use crate::calls::Calls;
 use crate::{Outside, Sink, Source};
@@ -47,7 +47,7 @@ impl Source for MemSource {
         requires { 0 < length into.old }
         ensures ok { IfOk result (λ count. count ≤ length into.new) }
         ensures count { IfOk result (λ count. count ≡ min (length into.old) (length (source_left self.old))) }
-        ensures left { IfOk result (λ count. Some (source_left self.old) ≡ preceded (take count into.new) (Some (source_left self.new))) }
+        ensures left { IfOk result (λ count. Some (source_left self.old) ≡ left_before (take count into.new) (Some (source_left self.new))) }
         ensures end { IfOk result (λ count. count ≡ 0 → IsAtEnd (Some (source_left self.old))) }
         ensures calls { source_calls self.new ≡ next_count (source_calls self.old) }
         ensures fails { source_fails self.new ≡ source_fails self.old }
@@ -109,7 +109,7 @@ impl Sink for MemSink {
     /// Writes all the bytes. After an error none was written.
     #[tactic(auto, using(crate::proofs::Parts::part_whole, crate::proofs::Parts::part_none, crate::proofs::Faults::counted))]
     fn write(&mut self, bytes: &[u8]) -> Result<(), Outside>
-        ensures ok { OnOk result (Some (sink_held self.new) ≡ appended (Some (sink_held self.old)) bytes.now) }
+        ensures ok { OnOk result (Some (sink_held self.new) ≡ contents_after (Some (sink_held self.old)) bytes.now) }
         ensures part { IsPart (Some (sink_held self.old)) (Some (sink_held self.new)) bytes.now }
         ensures calls { sink_calls self.new ≡ next_count (sink_calls self.old) }
         ensures fails { sink_fails self.new ≡ sink_fails self.old }

@@ -1,6 +1,6 @@
 //! All that a source has left, up to a limit.
 ghost use Rattle.std.specs.Prelude.{◌≡◌, ◌≤◌, ℕ, length, IfOk, OnOk, IsErrOf};
-ghost use Rattle.salt_outside.specs.Streams.{preceded, HasMoreThan, HasAtMost, IsAtEnd, IsRest};
+ghost use Rattle.salt_outside.specs.Streams.{left_before, HasMoreThan, HasAtMost, IsAtEnd, IsRest};
 ghost use Rattle.salt_outside.specs.Causes.{CountsFaults};
 
 use crate::{Outside, Source};
@@ -30,7 +30,7 @@ pub enum ReadAll {
 #[tactic(auto, using(crate::proofs::Parts::rest_one, crate::proofs::Parts::rest_two))]
 pub fn read_all<S: Source>(alloc: Global, source: &mut S, limit: usize) -> Result<Vec<u8>, ReadAll>
     ensures ok { IfOk result (λ v. length v.items ≤ limit) }
-    ensures bytes { IfOk result (λ v. S.left source.old ≡ preceded v.items (S.left source.new)) }
+    ensures bytes { IfOk result (λ v. S.left source.old ≡ left_before v.items (S.left source.new)) }
     ensures end { OnOk result (IsAtEnd (S.left source.new)) }
     ensures left { IsRest (S.left source.old) (S.left source.new) }
 

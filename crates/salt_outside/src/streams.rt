@@ -1,6 +1,6 @@
 //! What a source and a sink are, as standard input and standard output are.
 ghost use Rattle.std.specs.Prelude.{◌≡◌, ◌<◌, ◌≤◌, ℕ, List, Option, length, take, IfOk, OnOk, OnErr, IsErrOf};
-ghost use Rattle.salt_outside.specs.Streams.{appended, preceded, IsPart, IsAtEnd};
+ghost use Rattle.salt_outside.specs.Streams.{contents_after, left_before, IsPart, IsAtEnd};
 
 use crate::Outside;
 
@@ -20,7 +20,7 @@ pub trait Source {
     fn read(&mut self, into: &mut [u8]) -> Result<usize, Outside>
         requires { 0 < length into.old }
         ensures ok { IfOk result (λ count. count ≤ length into.new) }
-        ensures left { IfOk result (λ count. left self.old ≡ preceded (take count into.new) (left self.new)) }
+        ensures left { IfOk result (λ count. left self.old ≡ left_before (take count into.new) (left self.new)) }
         ensures end { IfOk result (λ count. count ≡ 0 → IsAtEnd (left self.old)) }
         ensures err { OnErr result (left self.new ≡ left self.old) }
         ensures faults { CountsFaults (IsErrOf result Outside.Failed) (faults self.old) (faults self.new) };
@@ -40,7 +40,7 @@ pub trait Sink {
     ///
     /// After `Failed` a front of them was written, which may be none or all. After `NoMemory` none was.
     fn write(&mut self, bytes: &[u8]) -> Result<(), Outside>
-        ensures ok { OnOk result (held self.new ≡ appended (held self.old) bytes.now) }
+        ensures ok { OnOk result (held self.new ≡ contents_after (held self.old) bytes.now) }
         ensures part { IsPart (held self.old) (held self.new) bytes.now }
         ensures faults { CountsFaults (IsErrOf result Outside.Failed) (faults self.old) (faults self.new) }
         ensures memory { IsErrOf result Outside.NoMemory → held self.new ≡ held self.old };

@@ -9,24 +9,24 @@ use Rattle.script_text.specs.Refused.{IsRefusedAt}
 use Rattle.std.specs.Prelude.{◌≢◌, Option, None, Some}
 use Rattle.salt_outside.specs.Causes.{Rose}
 use Rattle.salt_outside.proofs.Parts.{part_none}
-use Rattle.salt_outside.specs.Streams.{appended, preceded, IsPart, IsRest, IsAtEnd, HasAtMost}
+use Rattle.salt_outside.specs.Streams.{contents_after, left_before, IsPart, IsRest, IsAtEnd, HasAtMost}
 use Rattle.script_text.specs.declared.script.Script.{Script}
 use Rattle.script_text.specs.Script.{IsScript, Spells, MayStand, fleet_of, most_script_bytes}
-use Rattle.salt_replay.specs.Replay.{Replayed, MaySpell, DoesSpell, MayRefuse, IsReplayStatus, IsLineTold, refused_line, text_of_script}
+use Rattle.salt_replay.specs.Replay.{HasReplayed, MaySpell, DoesSpell, MayRefuse, IsReplayStatus, IsLineTold, refused_line, text_of_script}
 
 some_same : (a b : List ℕ) → Some a ≡ Some b → a ≡ b
 some_same a b e = cc
 
 -- the text that was read is all that was left
-all_read : (text bytes : List ℕ) (rest : Option (List ℕ)) → Some bytes ≡ preceded text rest → IsAtEnd rest → bytes ≡ text
+all_read : (text bytes : List ℕ) (rest : Option (List ℕ)) → Some bytes ≡ left_before text rest → IsAtEnd rest → bytes ≡ text
 all_read text bytes None e end = cc
 all_read text bytes (Some l) e end = some_same bytes (text ++ l) e ∙ rw end (append-nil text)
 
-pub may_spell : (s : Script) (text : List ℕ) (left rest : Option (List ℕ)) → left ≡ preceded text rest → IsAtEnd rest → Spells s text → MaySpell s left
+pub may_spell : (s : Script) (text : List ℕ) (left rest : Option (List ℕ)) → left ≡ left_before text rest → IsAtEnd rest → Spells s text → MaySpell s left
 may_spell s text None rest e end h = h.0
 may_spell s text (Some bytes) rest e end h = rw (all_read text bytes rest e end) h
 
-pub does_spell : (s : Script) (text : List ℕ) (left rest : Option (List ℕ)) → left ≡ preceded text rest → IsAtEnd rest → DoesSpell s left → Spells s text
+pub does_spell : (s : Script) (text : List ℕ) (left rest : Option (List ℕ)) → left ≡ left_before text rest → IsAtEnd rest → DoesSpell s left → Spells s text
 does_spell s text None rest e end h = absurd h
 does_spell s text (Some bytes) rest e end h = let P : List ℕ → Type 0 = λ t. Spells s t in subst P (all_read text bytes rest e end) h
 
@@ -48,13 +48,13 @@ kept_of code P cases (inr (inr e)) f = absurd (not_status code 4 cases e (omega 
 -- what a run over the script that was read does
 pub replayed : (left : Option (List ℕ)) (read_before read_now : ℕ) (held_before held_now : Option (List ℕ)) (write_before write_now code : ℕ)
     (text : List ℕ) (left_now : Option (List ℕ)) (s : Script)
-    → left ≡ preceded text left_now → IsAtEnd left_now → IsRest left left_now → read_now ≡ read_before
+    → left ≡ left_before text left_now → IsAtEnd left_now → IsRest left left_now → read_now ≡ read_before
     → Spells s text → ((other : Script) → Spells other text → other ≡ s)
     → IsPart held_before held_now (text_of_script s)
-    → (code ≡ 0 → held_now ≡ appended held_before (text_of_script s))
+    → (code ≡ 0 → held_now ≡ contents_after held_before (text_of_script s))
     → (code ≡ 5 → Rose write_before write_now) → ((code ≡ 0) ⊎ (code ≡ 1) → write_now ≡ write_before)
     → (code ≡ 0) ⊎ (code ≡ 1) ⊎ (code ≡ 5) → HasAtMost most_script_bytes left
-    → Replayed left left_now read_before read_now held_before held_now write_before write_now code
+    → HasReplayed left left_now read_before read_now held_before held_now write_before write_now code
 replayed left rb rn hb hn wb wn code text left_now s e end rest read spells only part done rose kept cases fits =
     let may : MaySpell s left = may_spell s text left left_now e end spells in
     let same : (other : Script) → DoesSpell other left → other ≡ s = λ other h. only other (does_spell other text left left_now e end h) in
@@ -77,15 +77,15 @@ replayed left rb rn hb hn wb wn code text left_now s e end rest read spells only
     }
 
 -- what a run over a text that is no script does
-pub may_refuse : (n : ℕ) (text : List ℕ) (left rest : Option (List ℕ)) → left ≡ preceded text rest → IsAtEnd rest → IsRefusedAt n text → MayRefuse n left
+pub may_refuse : (n : ℕ) (text : List ℕ) (left rest : Option (List ℕ)) → left ≡ left_before text rest → IsAtEnd rest → IsRefusedAt n text → MayRefuse n left
 may_refuse n text None rest e end h = tt
 may_refuse n text (Some bytes) rest e end h = rw (all_read text bytes rest e end) h
 
 pub refused_run : (left : Option (List ℕ)) (read_before read_now : ℕ) (held_before held_now : Option (List ℕ)) (write_before write_now : ℕ)
     (text : List ℕ) (left_now : Option (List ℕ)) (n : ℕ)
-    → left ≡ preceded text left_now → IsAtEnd left_now → IsRest left left_now → read_now ≡ read_before → IsRefusedAt n text
+    → left ≡ left_before text left_now → IsAtEnd left_now → IsRest left left_now → read_now ≡ read_before → IsRefusedAt n text
     → IsLineTold (refused_line n) held_before held_now write_before write_now → HasAtMost most_script_bytes left
-    → Replayed left left_now read_before read_now held_before held_now write_before write_now 3
+    → HasReplayed left left_now read_before read_now held_before held_now write_before write_now 3
 refused_run left rb rn hb hn wb wn text left_now n e end rest read place told fits = record {
   status = inr (inr (inl refl));
   done = λ z. absurd (omega (arith, z));
@@ -107,7 +107,7 @@ refused_run left rb rn hb hn wb wn text left_now n e end rest read place told fi
 -- a run that found no memory and wrote nothing
 pub silent_run : (left left_now : Option (List ℕ)) (read_before read_now : ℕ) (held_before held_now : Option (List ℕ)) (write_before write_now : ℕ)
     → held_now ≡ held_before → read_now ≡ read_before → write_now ≡ write_before → IsRest left left_now
-    → Replayed left left_now read_before read_now held_before held_now write_before write_now 1
+    → HasReplayed left left_now read_before read_now held_before held_now write_before write_now 1
 silent_run left left_now rb rn hb hn wb wn same read write rest = record {
   status = inr (inl refl);
   done = λ z. absurd (omega (arith, z));

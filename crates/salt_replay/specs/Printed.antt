@@ -1,7 +1,7 @@
 -- What was printed: a piece for each turn of a script, and what the piece of a report is.
 use Rattle.std.specs.Prelude.{◌≡◌, ℕ, List, ◌++◌, length, take, codes, slice_get, Option, None, Some, All, Contains}
 use Rattle.std.specs.List.{concat}
-use Rattle.salt_outside.specs.Streams.{appended}
+use Rattle.salt_outside.specs.Streams.{contents_after}
 use Rattle.fleet_config.specs.Tree.{Tree}
 use Rattle.salt_wire.specs.declared.message.Job.{Job}
 use Rattle.salt_value.specs.declared.outcome.Row.{Row}
@@ -9,7 +9,7 @@ use Rattle.fleet_turns.specs.declared.turn.Turn.{Turn}
 use Rattle.fleet_turns.specs.declared.turn.Turn.TheVariants.{Report}
 use Rattle.tree_world.specs.Network.{Network, top_jobs}
 use Rattle.tree_world.specs.Report.{flat_report}
-use Rattle.tree_world.specs.Text.{line, printed, function_at, rows_text, unknown_text, number_of}
+use Rattle.tree_world.specs.Text.{line, printed_text, function_at, rows_text, unknown_text, number_of}
 use Rattle.tree_laws.specs.Laws.{network_after, AscendById}
 use Rattle.script_text.specs.declared.script.Script.{Script}
 use Rattle.script_text.specs.Script.{fleet_of}
@@ -35,7 +35,7 @@ pub record IsPrinted (s : Script) (text : List ℕ) : Type 0 where
   -- Each piece is what its turn prints.
   pub each :
       (i : ℕ) (turn : Turn) → slice_get s.turns i ≡ Some turn
-      → slice_get pieces i ≡ Some (printed (fleet_of s) turn (network_before s i))
+      → slice_get pieces i ≡ Some (printed_text (fleet_of s) turn (network_before s i))
   -- That of a report is one of rows that the flat fleet gives.
   pub reports :
       (i jid : ℕ) (piece : List ℕ) → slice_get s.turns i ≡ Some (Report jid) → slice_get pieces i ≡ Some piece
@@ -43,7 +43,7 @@ pub record IsPrinted (s : Script) (text : List ℕ) : Type 0 where
 
 -- The sink holds what it held before, and then such a text.
 abbrev pub HasPrinted : Script → Option (List ℕ) → Option (List ℕ) → Type 0
-HasPrinted s held_before held_now = (text : List ℕ) × (held_now ≡ appended held_before text) × IsPrinted s text
+HasPrinted s held_before held_now = (text : List ℕ) × (held_now ≡ contents_after held_before text) × IsPrinted s text
 
 -- Over a source that is told and has the text of a script left, status 0 leaves the sink so.
 abbrev pub PrintsScripts : Option (List ℕ) → Option (List ℕ) → Option (List ℕ) → ℕ → Type 0

@@ -1,7 +1,7 @@
 -- What a run over a script does.
 use Rattle.std.specs.Prelude.{◌≡◌, ◌⊎◌, ℕ, List, ◌++◌, codes, decimal, Option, None, Some, All}
 use Rattle.salt_outside.specs.Causes.{Rose}
-use Rattle.salt_outside.specs.Streams.{appended, IsPart, IsRest, IsAtEnd, HasMoreThan, HasAtMost}
+use Rattle.salt_outside.specs.Streams.{contents_after, IsPart, IsRest, IsAtEnd, HasMoreThan, HasAtMost}
 use Rattle.fleet_turns.specs.declared.turn.Turn.{Turn}
 use Rattle.tree_world.specs.Network.{top_jobs}
 use Rattle.tree_world.specs.Text.{text_of, line}
@@ -41,7 +41,7 @@ no_command_line = line (codes "salt_node: the words are no command")
 -- The line was written whole, or the sink failed and holds a front of it.
 abbrev pub IsLineTold : List ℕ → Option (List ℕ) → Option (List ℕ) → ℕ → ℕ → Type 0
 IsLineTold text held_before held_now write_before write_now =
-    (held_now ≡ appended held_before text) ⊎ (Rose write_before write_now × IsPart held_before held_now text)
+    (held_now ≡ contents_after held_before text) ⊎ (Rose write_before write_now × IsPart held_before held_now text)
 
 -- The words are no command: their line and status 2, or status 1 and no line.
 abbrev pub IsNoCommand : Option (List ℕ) → Option (List ℕ) → ℕ → ℕ → ℕ → Type 0
@@ -54,12 +54,12 @@ abbrev pub IsReplayStatus : ℕ → Type 0
 IsReplayStatus code = (code ≡ 0) ⊎ (code ≡ 1) ⊎ (code ≡ 3) ⊎ (code ≡ 4) ⊎ (code ≡ 5) ⊎ (code ≡ 12)
 
 -- What the source had left before and after, its counts of faults, what the sink held before and after, its counts, and the status.
-pub record Replayed (left left_now : Option (List ℕ)) (read_before read_now : ℕ) (held_before held_now : Option (List ℕ)) (write_before write_now : ℕ) (code : ℕ) : Type 0 where
+pub record HasReplayed (left left_now : Option (List ℕ)) (read_before read_now : ℕ) (held_before held_now : Option (List ℕ)) (write_before write_now : ℕ) (code : ℕ) : Type 0 where
   pub status : IsReplayStatus code
   -- Status 0 comes for a script alone, and then its whole text was written.
-  pub done : code ≡ 0 → (s : Script) × MaySpell s left × (held_now ≡ appended held_before (text_of_script s))
+  pub done : code ≡ 0 → (s : Script) × MaySpell s left × (held_now ≡ contents_after held_before (text_of_script s))
   -- Over a script the text is this script's and no other.
-  pub text : (s : Script) → DoesSpell s left → code ≡ 0 → held_now ≡ appended held_before (text_of_script s)
+  pub text : (s : Script) → DoesSpell s left → code ≡ 0 → held_now ≡ contents_after held_before (text_of_script s)
   -- A front of the text was written where memory or the sink failed.
   pub part : (s : Script) → DoesSpell s left → (code ≡ 1) ⊎ (code ≡ 5) → IsPart held_before held_now (text_of_script s)
   -- Where memory was not found for the line of a text that is no script, nothing was written.

@@ -1,12 +1,12 @@
 //! The commands: a script is read, and the text of its run written.
 ghost use Rattle.std.specs.Prelude.{◌≡◌, ◌≢◌, ◌∷◌, [], ◌↔◌, codes, length, IsTrue, IfOk, OnOk, OnErr, IsErrOf};
 ghost use Rattle.salt_outside.specs.Causes.{CountsFaults};
-ghost use Rattle.salt_outside.specs.Streams.{appended, IsPart};
+ghost use Rattle.salt_outside.specs.Streams.{contents_after, IsPart};
 ghost use Rattle.std.specs.List.{AllByRecursion};
 ghost use Rattle.fleet_turns.specs.Turns.{IsTurn};
 ghost use Rattle.tree_world.specs.Text.{text_from};
 ghost use Rattle.script_text.specs.Script.{IsScript};
-ghost use Rattle.salt_replay.specs.Replay.{text_of_script, refused_line, IsLineTold, IsNoCommand, Replayed, StaysSound};
+ghost use Rattle.salt_replay.specs.Replay.{text_of_script, refused_line, IsLineTold, IsNoCommand, HasReplayed, StaysSound};
 ghost use Rattle.salt_replay.specs.Printed.{IsPrinted, PrintsScripts};
 ghost use Rattle.script_text.specs.declared.script.Script.{Script};
 
@@ -27,7 +27,7 @@ pub struct Status {
 // Runs the turns, and prints the text.
 fn run_turns<K: Sink>(world: &mut World, turns: &[Turn], sink: &mut K) -> Result<(), StepFault>
     requires { AllByRecursion (IsTurn world.old.fleet) turns.now }
-    ensures text { OnOk result (K.held sink.new ≡ appended (K.held sink.old) (text_from world.old.fleet turns.now world.old.network)) }
+    ensures text { OnOk result (K.held sink.new ≡ contents_after (K.held sink.old) (text_from world.old.fleet turns.now world.old.network)) }
     ensures part { IsPart (K.held sink.old) (K.held sink.new) (text_from world.old.fleet turns.now world.old.network) }
     ensures faults { CountsFaults (IsErrOf result StepFault.WriteFault) (K.faults sink.old) (K.faults sink.new) }
 {
@@ -40,7 +40,7 @@ fn run_turns<K: Sink>(world: &mut World, turns: &[Turn], sink: &mut K) -> Result
 // Runs a script.
 fn play<K: Sink>(alloc: Global, script: Script, sink: &mut K) -> Result<(), StepFault>
     requires { IsScript script }
-    ensures text { OnOk result (K.held sink.new ≡ appended (K.held sink.old) (text_of_script script)) }
+    ensures text { OnOk result (K.held sink.new ≡ contents_after (K.held sink.old) (text_of_script script)) }
     ensures part { IsPart (K.held sink.old) (K.held sink.new) (text_of_script script) }
     ensures faults { CountsFaults (IsErrOf result StepFault.WriteFault) (K.faults sink.old) (K.faults sink.new) }
 {
@@ -106,7 +106,7 @@ fn scripts_print_sound()
 pub fn run_replay<S: Source, K: Sink>(alloc: Global, source: &mut S, sink: &mut K) -> Status
     ensures printed { PrintsScripts (S.left source.old) (K.held sink.old) (K.held sink.new) result.code }
     ensures sound { (script : Script) → IsScript script → StaysSound script }
-    ensures replayed { Replayed (S.left source.old) (S.left source.new) (S.faults source.old) (S.faults source.new)
+    ensures replayed { HasReplayed (S.left source.old) (S.left source.new) (S.faults source.old) (S.faults source.new)
         (K.held sink.old) (K.held sink.new) (K.faults sink.old) (K.faults sink.new) result.code }
 {
     scripts_stay_sound();
@@ -116,7 +116,7 @@ pub fn run_replay<S: Source, K: Sink>(alloc: Global, source: &mut S, sink: &mut 
 
 // Reads a script and runs it.
 fn replay_script<S: Source, K: Sink>(alloc: Global, source: &mut S, sink: &mut K) -> Status
-    ensures { Replayed (S.left source.old) (S.left source.new) (S.faults source.old) (S.faults source.new)
+    ensures { HasReplayed (S.left source.old) (S.left source.new) (S.faults source.old) (S.faults source.new)
         (K.held sink.old) (K.held sink.new) (K.faults sink.old) (K.faults sink.new) result.code }
 {
     let text = match read_all(alloc, source, MOST_SCRIPT_BYTES) {

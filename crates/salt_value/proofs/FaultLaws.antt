@@ -8,14 +8,14 @@ use Rattle.salt_value.specs.declared.fault.Misread.TheVariants.{Short, BadTag, U
 use Rattle.salt_value.specs.declared.value.Value.{Value}
 use Rattle.salt_value.specs.declared.value.Value.TheVariants as v
 use Rattle.salt_value.specs.Keys.{keys_of, last_key, comes_after}
-use Rattle.salt_value.specs.Spelling.{bytes, text, joined, pairs_joined, spelled_pairs}
+use Rattle.salt_value.specs.Spelling.{bytes, text, concatenation, pairs_spelling, spelled_pairs}
 use Rattle.salt_value.specs.WellFormed.{well_formed, IsWellFormed, is_text, every, every_pair, depth, greatest, AllWellFormed, PairsWellFormed}
 use Rattle.salt_value.specs.Readers.{◌>>=◌, Reader, several, Answers}
 use Rattle.salt_value.specs.Decoding.{IsBytes, count_at, number_or, text_or, int_at, text_at, room_at, key_at, pair_at, pairs_at, value_at, from_front, read_at, after_tag}
 use Rattle.std.specs.Prelude.{IfErr, ◌≢◌, min}
 use Rattle.salt_value.specs.declared.fault.ValueFault.{ValueFault}
 use Rattle.salt_value.specs.declared.fault.ValueFault.TheVariants as faults
-use Rattle.salt_value.specs.FirstFault.{FirstFault, value_fault, Faults, IsCut, Counted, TextFault, KeyFault, ItemsFault, PairFault, PairsFault, TagFault, ValueFaults}
+use Rattle.salt_value.specs.FirstFault.{FirstFault, value_fault, Faults, IsCut, CountedFault, TextFault, KeyFault, ItemsFault, PairFault, PairsFault, TagFault, ValueFaults}
 use Rattle.salt_value.specs.Tags.{Tag, tag_of}
 use Rattle.salt_value.proofs.ReadLemmas.{tagged, tag_of-past, guard_ok}
 use Rattle.salt_value.proofs.WriteLemmas.{both_true, pairs_told}
@@ -52,7 +52,7 @@ above (suc n) h = omega arith
 
 -- what a number counts
 counted_fails : {A : Type 0} (g : ℕ → Reader Misread A) (fault : ℕ → Faults) (b : List ℕ) (f : Misread) → IsBytes b → ((n : ℕ) (rest : List ℕ) → IsBytes rest → b ≡ to_be_bytes w32 n ++ rest → g n rest ≡ Err f → fault n rest f)
-    → (count_at b >>= λ n. g n.0 n.1) ≡ Err f → Counted fault b f
+    → (count_at b >>= λ n. g n.0 n.1) ≡ Err f → CountedFault fault b f
 counted_fails g fault b f fits inner e =
     elim (bind_err (count_at b) (λ n. g n.0 n.1) f e) [
       | inl h ↦ inl (number_fails w32 b f h)
@@ -136,7 +136,7 @@ module _ (d : ℕ) (item : Reader Misread Value) (fault : Faults) (law : (b : Li
                     omega (arith, i.2),
                     both (well_formed h.0.0) (every (map well_formed i.0)) t.1 i.3,
                     omega (arith, t.2, i.4),
-                    t.0.parts ∙ ap (λ l. bytes h.0.0 ++ l) i.5 ∙ sym (append_assoc (bytes h.0.0) (joined (map bytes i.0)) i.1),
+                    t.0.parts ∙ ap (λ l. bytes h.0.0 ++ l) i.5 ∙ sym (append_assoc (bytes h.0.0) (concatenation (map bytes i.0)) i.1),
                     i.6,
                   )
               | inr g ↦ absurd (not_err g.2)
@@ -165,7 +165,7 @@ module _ (d : ℕ) (item : Reader Misread Value) (fault : Faults) (law : (b : Li
 
   abbrev FaultFrom : Option (List ℕ) → ℕ → List ℕ → Misread → Type 0
   FaultFrom last n b f = (done : List (List ℕ × Value)) × (rest : List ℕ) × (length done < n) × PairsWellFormed done × (chain last (keys_of done) ≡ true)
-      × (greatest (map (λ (p : List ℕ × Value). depth p.1) done) ≤ d) × (b ≡ pairs_joined (spelled_pairs done) ++ rest) × PairFault d fault (last_of last done) rest f
+      × (greatest (map (λ (p : List ℕ × Value). depth p.1) done) ≤ d) × (b ≡ pairs_spelling (spelled_pairs done) ++ rest) × PairFault d fault (last_of last done) rest f
 
   pairs_fails : (n : ℕ) (last : Option (List ℕ)) (b : List ℕ) (f : Misread) → IsBytes b → pairs_at d item last n b ≡ Err f → FaultFrom last n b f
   unfolding pairs_at
@@ -185,8 +185,8 @@ module _ (d : ℕ) (item : Reader Misread Value) (fault : Faults) (law : (b : Li
                     both (is_text p.0) (well_formed p.1 && every_pair (pairs_told i.0)) t.1 (both (well_formed p.1) (every_pair (pairs_told i.0)) t.3 i.3),
                     both (comes_after last p.0) (chain (Some p.0) (keys_of i.0)) t.2 i.4,
                     omega (arith, t.4, i.5),
-                    t.0.parts ∙ ap (λ l. (text p.0 ++ bytes p.1) ++ l) i.6 ∙ sym (append_assoc (text p.0 ++ bytes p.1) (pairs_joined (spelled_pairs i.0)) i.1)
-                        ∙ ap (λ l. l ++ i.1) (append_assoc (text p.0) (bytes p.1) (pairs_joined (spelled_pairs i.0))),
+                    t.0.parts ∙ ap (λ l. (text p.0 ++ bytes p.1) ++ l) i.6 ∙ sym (append_assoc (text p.0 ++ bytes p.1) (pairs_spelling (spelled_pairs i.0)) i.1)
+                        ∙ ap (λ l. l ++ i.1) (append_assoc (text p.0) (bytes p.1) (pairs_spelling (spelled_pairs i.0))),
                     i.7,
                   )
               | inr g ↦ absurd (not_err g.2)
@@ -231,7 +231,7 @@ cut_is : (w : Width) (b : List ℕ) (f : Misread) → IsCut (byte_len w) b f →
 cut_is w b f h = ap (λ t. cond t (Err Short) (Ok (from_be_bytes w (take (byte_len w) b), drop (byte_len w) b))) (lt-ltb _ _ h.0) ∙ ap (λ e. Err e) (sym h.1)
 
 counted_is : {A : Type 0} (g : ℕ → Reader Misread A) (fault : ℕ → Faults) (b : List ℕ) (f : Misread) → ((n : ℕ) (rest : List ℕ) → b ≡ to_be_bytes w32 n ++ rest → fault n rest f → g n rest ≡ Err f)
-    → Counted fault b f → (count_at b >>= λ n. g n.0 n.1) ≡ Err f
+    → CountedFault fault b f → (count_at b >>= λ n. g n.0 n.1) ≡ Err f
 counted_is g fault b f inner (inl h) = ap (λ r. r >>= λ n. g n.0 n.1) (cut_is w32 b f h)
 counted_is g fault b f inner (inr h) =
     ap (λ l. count_at l >>= λ n. g n.0 n.1) h.3 ∙ ap (λ r. r >>= λ n. g n.0 n.1) (number_again w32 (2 ^ 32) wide32 Short h.0 h.1 h.2) ∙ inner h.0 h.1 h.3 h.4
@@ -257,14 +257,14 @@ key_is last b f (inr h) =
 
 module _ (d : ℕ) (item : Reader Misread Value) (fault : Faults) (law : (w : Value) (rest : List ℕ) → IsWellFormed w → depth w ≤ d → item (bytes w ++ rest) ≡ Ok (w, rest))
     (stops : (b : List ℕ) (f : Misread) → fault b f → item b ≡ Err f) where
-  several_is : (n : ℕ) (done : List Value) (rest : List ℕ) (f : Misread) → length done < n → AllWellFormed done → greatest (map depth done) ≤ d → fault rest f → several item n (joined (map bytes done) ++ rest) ≡ Err f
+  several_is : (n : ℕ) (done : List Value) (rest : List ℕ) (f : Misread) → length done < n → AllWellFormed done → greatest (map depth done) ≤ d → fault rest f → several item n (concatenation (map bytes done) ++ rest) ≡ Err f
   unfolding several
   several_is zero done rest f lt h deep e = absurd (omega arith)
   several_is (suc n) [] rest f lt h deep e = rw (stops rest f e) refl
   several_is (suc n) (w ∷ ws) rest f lt h deep e =
       let parts = both_true (well_formed w) (every (map well_formed ws)) h in
-      let regrouped : joined (map bytes (w ∷ ws)) ++ rest ≡ bytes w ++ (joined (map bytes ws) ++ rest) = append_assoc (bytes w) (joined (map bytes ws)) rest in
-      ap (several item (suc n)) regrouped ∙ rw (law w (joined (map bytes ws) ++ rest) parts.0 (omega arith), several_is n ws rest f (omega arith) parts.1 (omega arith) e) refl
+      let regrouped : concatenation (map bytes (w ∷ ws)) ++ rest ≡ bytes w ++ (concatenation (map bytes ws) ++ rest) = append_assoc (bytes w) (concatenation (map bytes ws)) rest in
+      ap (several item (suc n)) regrouped ∙ rw (law w (concatenation (map bytes ws) ++ rest) parts.0 (omega arith), several_is n ws rest f (omega arith) parts.1 (omega arith) e) refl
 
   abbrev with_key : List ℕ × List ℕ → Result ((List ℕ × Value) × List ℕ) Misread
   with_key key = item key.1 >>= λ value. Ok ((key.0, value.0), value.1)
@@ -279,7 +279,7 @@ module _ (d : ℕ) (item : Reader Misread Value) (fault : Faults) (law : (w : Va
     inner (inr k) = ap (λ r. r >>= with_key) (ap (key_at last) k.4 ∙ key_again last k.0 k.1 k.2 k.3) ∙ ap (λ (r : Result (Value × List ℕ) Misread). r >>= λ value. Ok ((k.0, value.0), value.1)) (stops k.1 f k.5)
 
   pairs_are : (n : ℕ) (last : Option (List ℕ)) (done : List (List ℕ × Value)) (rest : List ℕ) (f : Misread) → length done < n → PairsWellFormed done → chain last (keys_of done) ≡ true
-      → greatest (map (λ (p : List ℕ × Value). depth p.1) done) ≤ d → PairFault d fault (last_of last done) rest f → pairs_at d item last n (pairs_joined (spelled_pairs done) ++ rest) ≡ Err f
+      → greatest (map (λ (p : List ℕ × Value). depth p.1) done) ≤ d → PairFault d fault (last_of last done) rest f → pairs_at d item last n (pairs_spelling (spelled_pairs done) ++ rest) ≡ Err f
   unfolding pairs_at
   pairs_are zero last done rest f lt h order deep e = absurd (omega arith)
   pairs_are (suc n) last [] rest f lt h order deep e = rw (pair_is last rest f e) refl
@@ -287,10 +287,10 @@ module _ (d : ℕ) (item : Reader Misread Value) (fault : Faults) (law : (w : Va
       let parts = both_true (is_text p.0) (well_formed p.1 && every_pair (pairs_told ps)) h in
       let more = both_true (well_formed p.1) (every_pair (pairs_told ps)) parts.1 in
       let after = both_true (comes_after last p.0) (chain (Some p.0) (keys_of ps)) order in
-      let regrouped : pairs_joined (spelled_pairs (p ∷ ps)) ++ rest ≡ text p.0 ++ (bytes p.1 ++ (pairs_joined (spelled_pairs ps) ++ rest))
-      = append_assoc (text p.0) (bytes p.1 ++ pairs_joined (spelled_pairs ps)) rest ∙ ap (λ l. text p.0 ++ l) (append_assoc (bytes p.1) (pairs_joined (spelled_pairs ps)) rest) in
+      let regrouped : pairs_spelling (spelled_pairs (p ∷ ps)) ++ rest ≡ text p.0 ++ (bytes p.1 ++ (pairs_spelling (spelled_pairs ps) ++ rest))
+      = append_assoc (text p.0) (bytes p.1 ++ pairs_spelling (spelled_pairs ps)) rest ∙ ap (λ l. text p.0 ++ l) (append_assoc (bytes p.1) (pairs_spelling (spelled_pairs ps)) rest) in
       ap (pairs_at d item last (suc n)) regrouped
-      ∙ rw (pair_again d item law last p (pairs_joined (spelled_pairs ps) ++ rest) parts.0 after.0 more.0 (omega arith), pairs_are n (Some p.0) ps rest f (omega arith) more.1 after.1 (omega arith) e) refl
+      ∙ rw (pair_again d item law last p (pairs_spelling (spelled_pairs ps) ++ rest) parts.0 after.0 more.0 (omega arith), pairs_are n (Some p.0) ps rest f (omega arith) more.1 after.1 (omega arith) e) refl
 
   tagged_is : (tag : ℕ) (b : List ℕ) (f : Misread) → TaggedFault d fault tag b f → tagged d item tag b ≡ Err f
   unfolding after_tag

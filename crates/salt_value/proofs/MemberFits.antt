@@ -6,7 +6,7 @@ use Rattle.salt_value.specs.declared.value.Value.{Value, fold-roll-Value}
 use Rattle.salt_value.specs.declared.value.Value.TheVariants as v
 use Rattle.salt_value.specs.declared.value.Value.TheVariants.{rolls-Str}
 use Rattle.salt_value.specs.declared.value.Value.TheOpen.{Value-F}
-use Rattle.salt_value.specs.Spelling.{bytes, spelling_layer, text, joined}
+use Rattle.salt_value.specs.Spelling.{bytes, spelling_layer, text, concatenation}
 use Rattle.salt_value.specs.WellFormed.{ValueFits, depth, depth_layer, well_formed, well_formed_layer, is_count, is_text, every}
 use Rattle.salt_value.proofs.ByteFields.{both, is_count_of, count_of_is, wide32}
 use Rattle.salt_value.proofs.WriteLemmas.{both_true}
@@ -42,7 +42,7 @@ first_fits x xs h =
     let told = both_true (is_count (length (x ∷ xs))) (every (map well_formed (x ∷ xs))) (sym (well_formed-List (x ∷ xs)) ∙ h.well_formed) in
     record {
       deep = omega (arith, h.deep, depth-List (x ∷ xs));
-      long = omega (arith, h.long, ap length (bytes-List (x ∷ xs)), length-append (to_be_bytes w32 (length (x ∷ xs))) (joined (map bytes (x ∷ xs))), length-append (bytes x) (joined (map bytes xs)));
+      long = omega (arith, h.long, ap length (bytes-List (x ∷ xs)), length-append (to_be_bytes w32 (length (x ∷ xs))) (concatenation (map bytes (x ∷ xs))), length-append (bytes x) (concatenation (map bytes xs)));
       well_formed = (both_true (well_formed x) (every (map well_formed xs)) told.1).0;
     }
 
@@ -57,9 +57,9 @@ rest_fits x xs h =
         h.long,
         ap length (bytes-List (x ∷ xs)),
         ap length (bytes-List xs),
-        length-append (to_be_bytes w32 (length (x ∷ xs))) (joined (map bytes (x ∷ xs))),
-        length-append (to_be_bytes w32 (length xs)) (joined (map bytes xs)),
-        length-append (bytes x) (joined (map bytes xs)),
+        length-append (to_be_bytes w32 (length (x ∷ xs))) (concatenation (map bytes (x ∷ xs))),
+        length-append (to_be_bytes w32 (length xs)) (concatenation (map bytes xs)),
+        length-append (bytes x) (concatenation (map bytes xs)),
         wide32.len (length (x ∷ xs)),
         wide32.len (length xs),
       );

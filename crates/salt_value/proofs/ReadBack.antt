@@ -12,7 +12,7 @@ use Rattle.salt_value.specs.declared.value.Value.TheVariants.{rolls-Null, rolls-
 use Rattle.salt_value.specs.declared.value.Value.TheOpen.{Value-F}
 use Rattle.salt_value.specs.Keys.{keys_of, before, comes_after, ascends}
 use Rattle.salt_value.specs.Tags.{Tag}
-use Rattle.salt_value.specs.Spelling.{bytes, spelling_layer, text, joined, pairs_joined, spelled_pairs}
+use Rattle.salt_value.specs.Spelling.{bytes, spelling_layer, text, concatenation, pairs_spelling, spelled_pairs}
 use Rattle.salt_value.specs.WellFormed.{well_formed, well_formed_layer, every, every_pair, is_count, is_text, is_int, IsWellFormed, AllWellFormed, PairsWellFormed, depth, depth_layer, greatest}
 use Rattle.salt_value.specs.Readers.{◌>>=◌, Reader, several}
 use Rattle.salt_value.specs.Decoding.{IsBytes, count_at, int_at, text_at, room_at, key_at, pair_at, pairs_at, value_at, after_tag}
@@ -22,11 +22,11 @@ use Rattle.salt_value.proofs.ByteFields.{IsBytes-rest, Takes, Takes-then, wide32
 
 -- ---- each definition at each kind of value
 
-pub bytes-List : (xs : List Value) → bytes (v.List xs) ≡ 5 ∷ (to_be_bytes w32 (length xs) ++ joined (map bytes xs))
-bytes-List xs = ap bytes (sym (rolls-List xs)) ∙ fold-roll-Value (List ℕ) spelling_layer (Value-F.List xs) ∙ ap (λ n. 5 ∷ (to_be_bytes w32 n ++ joined (map bytes xs))) (length-map xs bytes)
+pub bytes-List : (xs : List Value) → bytes (v.List xs) ≡ 5 ∷ (to_be_bytes w32 (length xs) ++ concatenation (map bytes xs))
+bytes-List xs = ap bytes (sym (rolls-List xs)) ∙ fold-roll-Value (List ℕ) spelling_layer (Value-F.List xs) ∙ ap (λ n. 5 ∷ (to_be_bytes w32 n ++ concatenation (map bytes xs))) (length-map xs bytes)
 
-pub bytes-Map : (ps : List (List ℕ × Value)) → bytes (v.Map ps) ≡ 6 ∷ (to_be_bytes w32 (length ps) ++ pairs_joined (spelled_pairs ps))
-bytes-Map ps = ap bytes (sym (rolls-Map ps)) ∙ fold-roll-Value (List ℕ) spelling_layer (Value-F.Map ps) ∙ ap (λ n. 6 ∷ (to_be_bytes w32 n ++ pairs_joined (spelled_pairs ps))) (length-map ps (λ p. (p.0, bytes p.1)))
+pub bytes-Map : (ps : List (List ℕ × Value)) → bytes (v.Map ps) ≡ 6 ∷ (to_be_bytes w32 (length ps) ++ pairs_spelling (spelled_pairs ps))
+bytes-Map ps = ap bytes (sym (rolls-Map ps)) ∙ fold-roll-Value (List ℕ) spelling_layer (Value-F.Map ps) ∙ ap (λ n. 6 ∷ (to_be_bytes w32 n ++ pairs_spelling (spelled_pairs ps))) (length-map ps (λ p. (p.0, bytes p.1)))
 
 pub well_formed-List : (xs : List Value) → well_formed (v.List xs) ≡ (is_count (length xs) && every (map well_formed xs))
 well_formed-List xs = ap well_formed (sym (rolls-List xs)) ∙ fold-roll-Value Bool well_formed_layer (Value-F.List xs) ∙ ap (λ n. is_count n && every (map well_formed xs)) (length-map xs well_formed)
@@ -109,21 +109,21 @@ chain_first (k ∷ ks) = chain_is k ks
 
 module _ (d : ℕ) (item : Reader Misread Value) (law : (b : List ℕ) (x : Value × List ℕ) → IsBytes b → item b ≡ Ok x → Took d b x) where
   several_takes : (n : ℕ) (b : List ℕ) (x : List Value × List ℕ) → IsBytes b → several item n b ≡ Ok x
-      → Takes b (joined (map bytes x.0)) x.1 × (length x.0 ≡ n) × AllWellFormed x.0 × (greatest (map depth x.0) ≤ d)
+      → Takes b (concatenation (map bytes x.0)) x.1 × (length x.0 ≡ n) × AllWellFormed x.0 × (greatest (map depth x.0) ≤ d)
   unfolding several
   several_takes zero b x fits e =
-      subst (λ (y : List Value × List ℕ). Takes b (joined (map bytes y.0)) y.1 × (length y.0 ≡ 0) × AllWellFormed y.0 × (greatest (map depth y.0) ≤ d)) (ok_is ([], b) x e) (record { parts = refl; rest_fits = fits }, refl, refl, omega arith)
+      subst (λ (y : List Value × List ℕ). Takes b (concatenation (map bytes y.0)) y.1 × (length y.0 ≡ 0) × AllWellFormed y.0 × (greatest (map depth y.0) ≤ d)) (ok_is ([], b) x e) (record { parts = refl; rest_fits = fits }, refl, refl, omega arith)
   several_takes (suc n) b x fits e =
       let a = bind_ok (item b) (λ first. several item n first.1 >>= λ others. Ok (first.0 ∷ others.0, others.1)) x e in
       let c = bind_ok (several item n a.0.1) (λ others. Ok (a.0.0 ∷ others.0, others.1)) x a.2 in
       let first = law b a.0 fits a.1 in
       let second = several_takes n a.0.1 c.0 first.0.rest_fits c.1 in
       let made : List Value × List ℕ = (a.0.0 ∷ c.0.0, c.0.1) in
-      subst (λ (y : List Value × List ℕ). Takes b (joined (map bytes y.0)) y.1 × (length y.0 ≡ suc n) × AllWellFormed y.0 × (greatest (map depth y.0) ≤ d)) (ok_is made x c.2)
-      (Takes-then b (bytes a.0.0) a.0.1 (joined (map bytes c.0.0)) c.0.1 first.0 second.0, ap suc second.1, both (well_formed a.0.0) (every (map well_formed c.0.0)) first.1 second.2, omega (arith, first.2, second.3))
+      subst (λ (y : List Value × List ℕ). Takes b (concatenation (map bytes y.0)) y.1 × (length y.0 ≡ suc n) × AllWellFormed y.0 × (greatest (map depth y.0) ≤ d)) (ok_is made x c.2)
+      (Takes-then b (bytes a.0.0) a.0.1 (concatenation (map bytes c.0.0)) c.0.1 first.0 second.0, ap suc second.1, both (well_formed a.0.0) (every (map well_formed c.0.0)) first.1 second.2, omega (arith, first.2, second.3))
 
   abbrev TookPairs : Option (List ℕ) → ℕ → List ℕ → List (List ℕ × Value) × List ℕ → Type 0
-  TookPairs last n b x = Takes b (pairs_joined (spelled_pairs x.0)) x.1 × (length x.0 ≡ n) × PairsWellFormed x.0 × (chain last (keys_of x.0) ≡ true) × (greatest (map (λ p. depth p.1) x.0) ≤ d)
+  TookPairs last n b x = Takes b (pairs_spelling (spelled_pairs x.0)) x.1 × (length x.0 ≡ n) × PairsWellFormed x.0 × (chain last (keys_of x.0) ≡ true) × (greatest (map (λ p. depth p.1) x.0) ≤ d)
 
   abbrev pub TookPair : Option (List ℕ) → List ℕ → (List ℕ × Value) × List ℕ → Type 0
   TookPair last b x = Takes b (text x.0.0 ++ bytes x.0.1) x.1 × (is_text x.0.0 ≡ true) × (comes_after last x.0.0 ≡ true) × IsWellFormed x.0.1 × (depth x.0.1 ≤ d)
@@ -155,8 +155,8 @@ module _ (d : ℕ) (item : Reader Misread Value) (law : (b : List ℕ) (x : Valu
       let second = pairs_takes n (Some a.0.0.0) a.0.1 c.0 first.0.rest_fits c.1 in
       let made : List (List ℕ × Value) × List ℕ = (a.0.0 ∷ c.0.0, c.0.1) in
       let p = a.0.0 in
-      let joins = Takes-then b (text p.0 ++ bytes p.1) a.0.1 (pairs_joined (spelled_pairs c.0.0)) c.0.1 first.0 second.0 in
-      let whole : Takes b (pairs_joined (spelled_pairs (p ∷ c.0.0))) c.0.1 = subst (λ (t : List ℕ). Takes b t c.0.1) (append_assoc (text p.0) (bytes p.1) (pairs_joined (spelled_pairs c.0.0))) joins in
+      let joins = Takes-then b (text p.0 ++ bytes p.1) a.0.1 (pairs_spelling (spelled_pairs c.0.0)) c.0.1 first.0 second.0 in
+      let whole : Takes b (pairs_spelling (spelled_pairs (p ∷ c.0.0))) c.0.1 = subst (λ (t : List ℕ). Takes b t c.0.1) (append_assoc (text p.0) (bytes p.1) (pairs_spelling (spelled_pairs c.0.0))) joins in
       subst (λ (y : List (List ℕ × Value) × List ℕ). TookPairs last (suc n) b y) (ok_is made x c.2) (
         whole,
         ap suc second.1,
@@ -191,25 +191,25 @@ tagged_takes d item law (suc (suc (suc (suc (suc zero))))) b x fits e =
     let count = number_takes w32 (2 ^ 32) wide32 Short b n.0.0 n.0.1 fits n.1 in
     let t = several_takes d item law n.0.0 n.0.1 a.0 count.0.rest_fits a.1 in
     let xs = a.0.0 in
-    let joins = Takes-then b (to_be_bytes w32 n.0.0) n.0.1 (joined (map bytes xs)) a.0.1 count.0 t.0 in
-    let whole : Takes b (to_be_bytes w32 (length xs) ++ joined (map bytes xs)) a.0.1 = subst (λ (k : ℕ). Takes b (to_be_bytes w32 k ++ joined (map bytes xs)) a.0.1) (sym t.1) joins in
+    let joins = Takes-then b (to_be_bytes w32 n.0.0) n.0.1 (concatenation (map bytes xs)) a.0.1 count.0 t.0 in
+    let whole : Takes b (to_be_bytes w32 (length xs) ++ concatenation (map bytes xs)) a.0.1 = subst (λ (k : ℕ). Takes b (to_be_bytes w32 k ++ concatenation (map bytes xs)) a.0.1) (sym t.1) joins in
     let small : length xs < 2 ^ 32 = omega (arith, t.1, count.1) in
     let made : Value × List ℕ = (v.List xs, a.0.1) in
     subst (λ (y : Value × List ℕ). Took (suc d) (5 ∷ b) y) (ok_is made x a.2)
-    (one 5 b (to_be_bytes w32 (length xs) ++ joined (map bytes xs)) (v.List xs) a.0.1 (bytes-List xs) whole, well_formed-List xs ∙ both (is_count (length xs)) (every (map well_formed xs)) (is_count_of (length xs) small) t.2, omega (arith, depth-List xs, t.3))
+    (one 5 b (to_be_bytes w32 (length xs) ++ concatenation (map bytes xs)) (v.List xs) a.0.1 (bytes-List xs) whole, well_formed-List xs ∙ both (is_count (length xs)) (every (map well_formed xs)) (is_count_of (length xs) small) t.2, omega (arith, depth-List xs, t.3))
 tagged_takes d item law (suc (suc (suc (suc (suc (suc zero)))))) b x fits e =
     let n = bind_ok (count_at b) (λ n. pairs_at d item None n.0 n.1 >>= λ pairs. Ok (v.Map pairs.0, pairs.1)) x e in
     let a = bind_ok (pairs_at d item None n.0.0 n.0.1) (λ pairs. Ok (v.Map pairs.0, pairs.1)) x n.2 in
     let count = number_takes w32 (2 ^ 32) wide32 Short b n.0.0 n.0.1 fits n.1 in
     let t = pairs_takes d item law n.0.0 None n.0.1 a.0 count.0.rest_fits a.1 in
     let ps = a.0.0 in
-    let joins = Takes-then b (to_be_bytes w32 n.0.0) n.0.1 (pairs_joined (spelled_pairs ps)) a.0.1 count.0 t.0 in
-    let whole : Takes b (to_be_bytes w32 (length ps) ++ pairs_joined (spelled_pairs ps)) a.0.1 = subst (λ (k : ℕ). Takes b (to_be_bytes w32 k ++ pairs_joined (spelled_pairs ps)) a.0.1) (sym t.1) joins in
+    let joins = Takes-then b (to_be_bytes w32 n.0.0) n.0.1 (pairs_spelling (spelled_pairs ps)) a.0.1 count.0 t.0 in
+    let whole : Takes b (to_be_bytes w32 (length ps) ++ pairs_spelling (spelled_pairs ps)) a.0.1 = subst (λ (k : ℕ). Takes b (to_be_bytes w32 k ++ pairs_spelling (spelled_pairs ps)) a.0.1) (sym t.1) joins in
     let small : length ps < 2 ^ 32 = omega (arith, t.1, count.1) in
     let ordered : ascends (keys_of ps) ≡ true = sym (chain_first (keys_of ps)) ∙ t.3 in
     let made : Value × List ℕ = (v.Map ps, a.0.1) in
     subst (λ (y : Value × List ℕ). Took (suc d) (6 ∷ b) y) (ok_is made x a.2) (
-      one 6 b (to_be_bytes w32 (length ps) ++ pairs_joined (spelled_pairs ps)) (v.Map ps) a.0.1 (bytes-Map ps) whole,
+      one 6 b (to_be_bytes w32 (length ps) ++ pairs_spelling (spelled_pairs ps)) (v.Map ps) a.0.1 (bytes-Map ps) whole,
       well_formed-Map ps ∙ both (is_count (length ps)) (every_pair (pairs_told ps) && ascends (keys_of ps)) (is_count_of (length ps) small) (both (every_pair (pairs_told ps)) (ascends (keys_of ps)) t.2 ordered),
       omega (arith, depth-Map ps, t.4),
     )
@@ -240,13 +240,13 @@ pub positive : (w : Value) → 1 ≤ depth w
 positive w = rw (fold_out-Value ℕ depth_layer w) (positive_step (map-Value _ _ depth (out-Value w)))
 
 module _ (d : ℕ) (item : Reader Misread Value) (law : (w : Value) (rest : List ℕ) → IsWellFormed w → depth w ≤ d → item (bytes w ++ rest) ≡ Ok (w, rest)) where
-  several_again : (ws : List Value) (rest : List ℕ) → AllWellFormed ws → greatest (map depth ws) ≤ d → several item (length ws) (joined (map bytes ws) ++ rest) ≡ Ok (ws, rest)
+  several_again : (ws : List Value) (rest : List ℕ) → AllWellFormed ws → greatest (map depth ws) ≤ d → several item (length ws) (concatenation (map bytes ws) ++ rest) ≡ Ok (ws, rest)
   unfolding several
   several_again [] rest h deep = refl
   several_again (w ∷ ws) rest h deep =
       let parts = both_true (well_formed w) (every (map well_formed ws)) h in
-      let regrouped : joined (map bytes (w ∷ ws)) ++ rest ≡ bytes w ++ (joined (map bytes ws) ++ rest) = append_assoc (bytes w) (joined (map bytes ws)) rest in
-      ap (several item (suc (length ws))) regrouped ∙ rw (law w (joined (map bytes ws) ++ rest) parts.0 (omega arith), several_again ws rest parts.1 (omega arith)) refl
+      let regrouped : concatenation (map bytes (w ∷ ws)) ++ rest ≡ bytes w ++ (concatenation (map bytes ws) ++ rest) = append_assoc (bytes w) (concatenation (map bytes ws)) rest in
+      ap (several item (suc (length ws))) regrouped ∙ rw (law w (concatenation (map bytes ws) ++ rest) parts.0 (omega arith), several_again ws rest parts.1 (omega arith)) refl
 
   pub pair_again : (last : Option (List ℕ)) (p : List ℕ × Value) (rest : List ℕ) → is_text p.0 ≡ true → comes_after last p.0 ≡ true → IsWellFormed p.1 → depth p.1 ≤ d
       → pair_at d item last (text p.0 ++ (bytes p.1 ++ rest)) ≡ Ok (p, rest)
@@ -256,17 +256,17 @@ module _ (d : ℕ) (item : Reader Misread Value) (law : (w : Value) (rest : List
       rw (some, key_again last p.0 (bytes p.1 ++ rest) t after, law p.1 rest h deep) refl
 
   pairs_again : (ps : List (List ℕ × Value)) (last : Option (List ℕ)) (rest : List ℕ) → PairsWellFormed ps → chain last (keys_of ps) ≡ true → greatest (map (λ (p : List ℕ × Value). depth p.1) ps) ≤ d
-      → pairs_at d item last (length ps) (pairs_joined (spelled_pairs ps) ++ rest) ≡ Ok (ps, rest)
+      → pairs_at d item last (length ps) (pairs_spelling (spelled_pairs ps) ++ rest) ≡ Ok (ps, rest)
   unfolding pairs_at
   pairs_again [] last rest h order deep = refl
   pairs_again (p ∷ ps) last rest h order deep =
       let parts = both_true (is_text p.0) (well_formed p.1 && every_pair (pairs_told ps)) h in
       let more = both_true (well_formed p.1) (every_pair (pairs_told ps)) parts.1 in
       let after = both_true (comes_after last p.0) (chain (Some p.0) (keys_of ps)) order in
-      let regrouped : pairs_joined (spelled_pairs (p ∷ ps)) ++ rest ≡ text p.0 ++ (bytes p.1 ++ (pairs_joined (spelled_pairs ps) ++ rest))
-      = append_assoc (text p.0) (bytes p.1 ++ pairs_joined (spelled_pairs ps)) rest ∙ ap (λ l. text p.0 ++ l) (append_assoc (bytes p.1) (pairs_joined (spelled_pairs ps)) rest) in
+      let regrouped : pairs_spelling (spelled_pairs (p ∷ ps)) ++ rest ≡ text p.0 ++ (bytes p.1 ++ (pairs_spelling (spelled_pairs ps) ++ rest))
+      = append_assoc (text p.0) (bytes p.1 ++ pairs_spelling (spelled_pairs ps)) rest ∙ ap (λ l. text p.0 ++ l) (append_assoc (bytes p.1) (pairs_spelling (spelled_pairs ps)) rest) in
       ap (pairs_at d item last (suc (length ps))) regrouped
-      ∙ rw (pair_again last p (pairs_joined (spelled_pairs ps) ++ rest) parts.0 after.0 more.0 (omega arith), pairs_again ps (Some p.0) rest more.1 after.1 (omega arith)) refl
+      ∙ rw (pair_again last p (pairs_spelling (spelled_pairs ps) ++ rest) parts.0 after.0 more.0 (omega arith), pairs_again ps (Some p.0) rest more.1 after.1 (omega arith)) refl
 
 abbrev Again : ℕ → Value → Type 0
 Again d w = (rest : List ℕ) → IsWellFormed w → depth w ≤ suc d → value_at (suc d) (bytes w ++ rest) ≡ Ok (w, rest)
@@ -297,18 +297,18 @@ module _ (d : ℕ) (law : (w : Value) (rest : List ℕ) → IsWellFormed w → d
   unfolding after_tag
   again_List ws rest h deep =
       let parts = both_true (is_count (length ws)) (every (map well_formed ws)) (sym (well_formed-List ws) ∙ h) in
-      at_tag (v.List ws) 5 (to_be_bytes w32 (length ws) ++ joined (map bytes ws)) rest (bytes-List ws)
-      (ap (tagged d (value_at d) 5) (append_assoc (to_be_bytes w32 (length ws)) (joined (map bytes ws)) rest)
-      ∙ rw (number_again w32 (2 ^ 32) wide32 Short (length ws) (joined (map bytes ws) ++ rest) (count_of_is (length ws) parts.0), several_again d (value_at d) law ws rest parts.1 (omega (arith, depth-List ws))) refl)
+      at_tag (v.List ws) 5 (to_be_bytes w32 (length ws) ++ concatenation (map bytes ws)) rest (bytes-List ws)
+      (ap (tagged d (value_at d) 5) (append_assoc (to_be_bytes w32 (length ws)) (concatenation (map bytes ws)) rest)
+      ∙ rw (number_again w32 (2 ^ 32) wide32 Short (length ws) (concatenation (map bytes ws) ++ rest) (count_of_is (length ws) parts.0), several_again d (value_at d) law ws rest parts.1 (omega (arith, depth-List ws))) refl)
 
   again_Map : (ps : List (List ℕ × Value)) → Again d (v.Map ps)
   unfolding after_tag
   again_Map ps rest h deep =
       let parts = both_true (is_count (length ps)) (every_pair (pairs_told ps) && ascends (keys_of ps)) (sym (well_formed-Map ps) ∙ h) in
       let more = both_true (every_pair (pairs_told ps)) (ascends (keys_of ps)) parts.1 in
-      at_tag (v.Map ps) 6 (to_be_bytes w32 (length ps) ++ pairs_joined (spelled_pairs ps)) rest (bytes-Map ps)
-      (ap (tagged d (value_at d) 6) (append_assoc (to_be_bytes w32 (length ps)) (pairs_joined (spelled_pairs ps)) rest)
-      ∙ rw (number_again w32 (2 ^ 32) wide32 Short (length ps) (pairs_joined (spelled_pairs ps) ++ rest) (count_of_is (length ps) parts.0), pairs_again d (value_at d) law ps None rest more.0 (chain_first (keys_of ps) ∙ more.1) (omega (arith, depth-Map ps))) refl)
+      at_tag (v.Map ps) 6 (to_be_bytes w32 (length ps) ++ pairs_spelling (spelled_pairs ps)) rest (bytes-Map ps)
+      (ap (tagged d (value_at d) 6) (append_assoc (to_be_bytes w32 (length ps)) (pairs_spelling (spelled_pairs ps)) rest)
+      ∙ rw (number_again w32 (2 ^ 32) wide32 Short (length ps) (pairs_spelling (spelled_pairs ps) ++ rest) (count_of_is (length ps) parts.0), pairs_again d (value_at d) law ps None rest more.0 (chain_first (keys_of ps) ∙ more.1) (omega (arith, depth-Map ps))) refl)
 
   again_layer : (l : Value-F Value) → Again d (roll-Value l)
   again_layer Value-F.Null = subst (Again d) (sym rolls-Null) again_Null

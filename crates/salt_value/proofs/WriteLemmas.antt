@@ -7,7 +7,7 @@ use Rattle.std.specs.Int.{w32, to_be_bytes}
 use Rattle.salt_value.specs.declared.value.Value.{Value, Map, fold-roll-Value}
 use Rattle.salt_value.specs.declared.value.Value.TheVariants.{rolls-Map}
 use Rattle.salt_value.specs.declared.value.Value.TheOpen.{Value-F}
-use Rattle.salt_value.specs.Spelling.{bytes, spelling_layer, text, joined, pairs_joined, spelled_pairs}
+use Rattle.salt_value.specs.Spelling.{bytes, spelling_layer, text, concatenation, pairs_spelling, spelled_pairs}
 use Rattle.salt_value.specs.WellFormed.{every, every_pair, well_formed, is_text, IsWellFormed, AllWellFormed, PairsWellFormed}
 use Rattle.std.specs.Str.{is_utf8}
 
@@ -36,16 +36,16 @@ pair_at [] i d h lt = absurd (omega arith)
 pair_at (p ∷ ps) zero d h lt = ((first_pair p ps h).0, (first_pair p ps h).2)
 pair_at (p ∷ ps) (suc i) d h lt = pair_at ps i d (first_pair p ps h).3 (omega arith)
 
-pub joined-push : (vs : List Value) (v : Value) → joined (map bytes (vs ++ v ∷ [])) ≡ joined (map bytes vs) ++ bytes v
+pub joined-push : (vs : List Value) (v : Value) → concatenation (map bytes (vs ++ v ∷ [])) ≡ concatenation (map bytes vs) ++ bytes v
 joined-push [] v = append-nil (bytes v)
-joined-push (x ∷ vs) v = ap (λ t. bytes x ++ t) (joined-push vs v) ∙ sym (append_assoc (bytes x) (joined (map bytes vs)) (bytes v))
+joined-push (x ∷ vs) v = ap (λ t. bytes x ++ t) (joined-push vs v) ∙ sym (append_assoc (bytes x) (concatenation (map bytes vs)) (bytes v))
 
-pub pairs-push : (ps : List (List ℕ × Value)) (p : List ℕ × Value) → pairs_joined (spelled_pairs (ps ++ p ∷ [])) ≡ pairs_joined (spelled_pairs ps) ++ (text p.0 ++ bytes p.1)
+pub pairs-push : (ps : List (List ℕ × Value)) (p : List ℕ × Value) → pairs_spelling (spelled_pairs (ps ++ p ∷ [])) ≡ pairs_spelling (spelled_pairs ps) ++ (text p.0 ++ bytes p.1)
 pairs-push [] p = ap (λ t. text p.0 ++ t) (append-nil (bytes p.1))
 pairs-push (x ∷ ps) p =
     ap (λ t. text x.0 ++ (bytes x.1 ++ t)) (pairs-push ps p)
-    ∙ ap (λ t. text x.0 ++ t) (sym (append_assoc (bytes x.1) (pairs_joined (spelled_pairs ps)) (text p.0 ++ bytes p.1)))
-    ∙ sym (append_assoc (text x.0) (bytes x.1 ++ pairs_joined (spelled_pairs ps)) (text p.0 ++ bytes p.1))
+    ∙ ap (λ t. text x.0 ++ t) (sym (append_assoc (bytes x.1) (pairs_spelling (spelled_pairs ps)) (text p.0 ++ bytes p.1)))
+    ∙ sym (append_assoc (text x.0) (bytes x.1 ++ pairs_spelling (spelled_pairs ps)) (text p.0 ++ bytes p.1))
 
-pub bytes-Map : (ps : List (List ℕ × Value)) → bytes (Map ps) ≡ 6 ∷ (to_be_bytes w32 (length ps) ++ pairs_joined (spelled_pairs ps))
-bytes-Map ps = ap bytes (sym (rolls-Map ps)) ∙ fold-roll-Value (List ℕ) spelling_layer (Value-F.Map ps) ∙ ap (λ n. 6 ∷ (to_be_bytes w32 n ++ pairs_joined (spelled_pairs ps))) (length-map ps (λ p. (p.0, bytes p.1)))
+pub bytes-Map : (ps : List (List ℕ × Value)) → bytes (Map ps) ≡ 6 ∷ (to_be_bytes w32 (length ps) ++ pairs_spelling (spelled_pairs ps))
+bytes-Map ps = ap bytes (sym (rolls-Map ps)) ∙ fold-roll-Value (List ℕ) spelling_layer (Value-F.Map ps) ∙ ap (λ n. 6 ∷ (to_be_bytes w32 n ++ pairs_spelling (spelled_pairs ps))) (length-map ps (λ p. (p.0, bytes p.1)))

@@ -11,7 +11,7 @@ use Rattle.salt_value.specs.Limits.{most_value_levels, most_value_bytes}
 use Rattle.salt_value.specs.Tags as tag
 use Rattle.salt_value.specs.Tags.{Tag, tag_of}
 use Rattle.salt_value.specs.Keys.{keys_of, last_key, comes_after, Ascend}
-use Rattle.salt_value.specs.Spelling.{bytes, text, joined, pairs_joined, spelled_pairs}
+use Rattle.salt_value.specs.Spelling.{bytes, text, concatenation, pairs_spelling, spelled_pairs}
 use Rattle.salt_value.specs.WellFormed.{is_text, depth, greatest, AllWellFormed, PairsWellFormed}
 
 -- what fault the bytes have at their front. A place is the number of bytes from there to the end
@@ -23,12 +23,12 @@ abbrev pub IsCut : ℕ → Faults
 IsCut size b f = (length b < size) × (f ≡ Short)
 
 -- no whole number of 32 bits, or one and a fault of what it counts
-abbrev pub Counted : (ℕ → Faults) → Faults
-Counted fault b f = IsCut 4 b f ⊎ ((n : ℕ) × (rest : List ℕ) × (n < 2 ^ 32) × (b ≡ to_be_bytes w32 n ++ rest) × fault n rest f)
+abbrev pub CountedFault : (ℕ → Faults) → Faults
+CountedFault fault b f = IsCut 4 b f ⊎ ((n : ℕ) × (rest : List ℕ) × (n < 2 ^ 32) × (b ≡ to_be_bytes w32 n ++ rest) × fault n rest f)
 
 -- no whole text, or a whole one that is no UTF-8
 abbrev pub TextFault : Faults
-TextFault = Counted (λ n rest f. IsCut n rest f ⊎ ((n ≤ length rest) × (is_utf8 (take n rest) ≡ false) × (f ≡ NotUtf8 (length rest))))
+TextFault = CountedFault (λ n rest f. IsCut n rest f ⊎ ((n ≤ length rest) × (is_utf8 (take n rest) ≡ false) × (f ≡ NotUtf8 (length rest))))
 
 -- a key that is no text, or that doesn't stand after the key before it
 abbrev pub KeyFault : Option (List ℕ) → Faults
@@ -39,7 +39,7 @@ KeyFault last b f = TextFault b f
 module _ (d : ℕ) (fault : Faults) where
   -- in a list: some whole members, fewer than the count, and then one with a fault
   abbrev pub ItemsFault : ℕ → Faults
-  ItemsFault n b f = (done : List Value) × (rest : List ℕ) × (length done < n) × AllWellFormed done × (greatest (map depth done) ≤ d) × (b ≡ joined (map bytes done) ++ rest) × fault rest f
+  ItemsFault n b f = (done : List Value) × (rest : List ℕ) × (length done < n) × AllWellFormed done × (greatest (map depth done) ≤ d) × (b ≡ concatenation (map bytes done) ++ rest) × fault rest f
 
   -- in a pair: no level for the value, a fault of the key, or a whole key and a fault of the value
   abbrev pub PairFault : Option (List ℕ) → Faults
@@ -49,7 +49,7 @@ module _ (d : ℕ) (fault : Faults) where
   -- in a map: some whole pairs in order, fewer than the count, and then one with a fault
   abbrev pub PairsFault : ℕ → Faults
   PairsFault n b f = (done : List (List ℕ × Value)) × (rest : List ℕ) × (length done < n) × PairsWellFormed done × Ascend (keys_of done)
-      × (greatest (map (λ (p : List ℕ × Value). depth p.1) done) ≤ d) × (b ≡ pairs_joined (spelled_pairs done) ++ rest) × PairFault (last_key done) rest f
+      × (greatest (map (λ (p : List ℕ × Value). depth p.1) done) ≤ d) × (b ≡ pairs_spelling (spelled_pairs done) ++ rest) × PairFault (last_key done) rest f
 
   -- after a tag, by cases on the tag
   abbrev pub TagFault : Option Tag → Faults
@@ -58,8 +58,8 @@ module _ (d : ℕ) (fault : Faults) where
   TagFault (Some tag.True) b f = ⊥
   TagFault (Some tag.Int) b f = IsCut 8 b f
   TagFault (Some tag.Str) b f = TextFault b f
-  TagFault (Some tag.List) b f = Counted ItemsFault b f
-  TagFault (Some tag.Map) b f = Counted PairsFault b f
+  TagFault (Some tag.List) b f = CountedFault ItemsFault b f
+  TagFault (Some tag.Map) b f = CountedFault PairsFault b f
   TagFault None b f = f ≡ BadTag (suc (length b))
 
 -- in a value that may have so many levels

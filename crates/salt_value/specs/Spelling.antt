@@ -11,14 +11,14 @@ abbrev pub text : List ℕ → List ℕ
 text t = to_be_bytes w32 (length t) ++ t
 
 -- one spelling after the other
-abbrev pub joined : List (List ℕ) → List ℕ
-joined [] = []
-joined (x ∷ xs) = x ++ joined xs
+abbrev pub concatenation : List (List ℕ) → List ℕ
+concatenation [] = []
+concatenation (x ∷ xs) = x ++ concatenation xs
 
 -- for each pair its key as a text, and then the value's bytes
-abbrev pub pairs_joined : List (List ℕ × List ℕ) → List ℕ
-pairs_joined [] = []
-pairs_joined (p ∷ ps) = text p.0 ++ (p.1 ++ pairs_joined ps)
+abbrev pub pairs_spelling : List (List ℕ × List ℕ) → List ℕ
+pairs_spelling [] = []
+pairs_spelling (p ∷ ps) = text p.0 ++ (p.1 ++ pairs_spelling ps)
 
 -- one layer of a value, with the bytes of each member in the member's place
 abbrev pub spelling_layer : Value-F (List ℕ) → List ℕ
@@ -27,8 +27,8 @@ spelling_layer (Value-F.Flag false) = code_of tag.False ∷ []
 spelling_layer (Value-F.Flag true) = code_of tag.True ∷ []
 spelling_layer (Value-F.Int z) = code_of tag.Int ∷ to_be_bytes w64 (cast_unsigned w64 z)
 spelling_layer (Value-F.Str t) = code_of tag.Str ∷ text t
-spelling_layer (Value-F.List xs) = code_of tag.List ∷ (to_be_bytes w32 (length xs) ++ joined xs)
-spelling_layer (Value-F.Map ps) = code_of tag.Map ∷ (to_be_bytes w32 (length ps) ++ pairs_joined ps)
+spelling_layer (Value-F.List xs) = code_of tag.List ∷ (to_be_bytes w32 (length xs) ++ concatenation xs)
+spelling_layer (Value-F.Map ps) = code_of tag.Map ∷ (to_be_bytes w32 (length ps) ++ pairs_spelling ps)
 
 -- the spelling of a value
 abbrev pub bytes : Value → List ℕ

@@ -1,7 +1,7 @@
 //! Whether a value is within the limits of its bytes.
 ghost use Rattle.std.specs.Prelude.{◌≡◌, ◌≤◌, ◌+◌, ◌++◌, ◌&&◌, true, length, map};
 ghost use Rattle.salt_value.specs.Spelling as spelling;
-ghost use Rattle.salt_value.specs.Spelling.{bytes, joined, pairs_joined, spelled_pairs};
+ghost use Rattle.salt_value.specs.Spelling.{bytes, concatenation, pairs_spelling, spelled_pairs};
 ghost use Rattle.salt_value.specs.WellFormed.{IsWellFormed, AllWellFormed, PairsWellFormed, is_int, is_text, well_formed, depth, greatest};
 ghost use Rattle.salt_value.specs.Room.{Leaves};
 ghost use Rattle.salt_value.specs.declared.value.Value.TheVariants as v;
@@ -50,7 +50,7 @@ pub fn after(value: &Value, levels: usize, room: usize) -> Option<usize>
 #[cycle(fits)]
 fn after_items(items: &[Value], levels: usize, room: usize) -> Option<usize>
     requires { room ≤ 65536 }
-    ensures { Leaves (AllWellFormed items.now) (greatest (map depth items.now)) levels (5 + length (joined (map bytes items.now))) room result }
+    ensures { Leaves (AllWellFormed items.now) (greatest (map depth items.now)) levels (5 + length (concatenation (map bytes items.now))) room result }
 {
     if room < 5 {
         return None;
@@ -81,7 +81,7 @@ fn after_pair(key: &str, value: &Value, levels: usize, room: usize) -> Option<us
 #[cycle(fits)]
 fn after_pairs(pairs: &[(Text, Value)], levels: usize, room: usize) -> Option<usize>
     requires { room ≤ 65536 }
-    ensures { Leaves (PairsWellFormed pairs.now) (greatest (map (λ p. depth p.1) pairs.now)) levels (5 + length (pairs_joined (spelled_pairs pairs.now))) room result }
+    ensures { Leaves (PairsWellFormed pairs.now) (greatest (map (λ p. depth p.1) pairs.now)) levels (5 + length (pairs_spelling (spelled_pairs pairs.now))) room result }
 {
     if room < 5 {
         return None;

@@ -12,7 +12,7 @@ use Rattle.salt_wire.specs.declared.fault.WireFault.TheVariants as faults
 use Rattle.salt_wire.specs.declared.message.Message.{Message}
 use Rattle.salt_wire.specs.Spelling.{body, kind_and_fields as spelled}
 use Rattle.salt_wire.specs.Limits.{Within}
-use Rattle.salt_wire.specs.Decoding.{kind_and_fields, nothing_after, message_at, wire_fault, body_answer, decoded, with_place, field_at}
+use Rattle.salt_wire.specs.Decoding.{kind_and_fields, nothing_after, message_at, wire_fault, body_answer, decoding, with_place, field_at}
 use Rattle.salt_wire.specs.FirstFault.{Wrong, FaultAt, IsTold}
 use Rattle.salt_wire.specs.RoundTrip.{IsReadBack, Spans}
 use Rattle.salt_wire.proofs.Codec.{bind_ok, ok_is}
@@ -29,8 +29,8 @@ no_more [] e = refl
 no_more (x ∷ xs) e = absurd (omega arith)
 
 module _ (law : IsReadBack spelled Within kind_and_fields) where
-  pub message_again : (x : Message) → Within x → decoded (body x) ≡ Ok x
-  unfolding decoded message_at
+  pub message_again : (x : Message) → Within x → decoding (body x) ≡ Ok x
+  unfolding decoding message_at
   message_again x h =
       ap (λ r. body_answer (length (body x)) (r >>= nothing_after)) (ap kind_and_fields (sym (append-nil (spelled x))) ∙ law.written x [] h)
 
@@ -53,8 +53,8 @@ module _ (law : IsReadBack spelled Within kind_and_fields) where
         subst (Found (version ∷ b)) n.0 (t.0, ap (λ (k : ℕ). k ∷ b) (v refl) ∙ ap (λ (r : List ℕ). 1 ∷ r) parts)
     by false v e = absurd cc
 
-  pub decoded_took : (b : List ℕ) (r : Result Message WireFault) → IsBytes b → Answers faults.NoMemory r (decoded b) → IfOk r (λ x. Within x × (b ≡ body x))
-  unfolding decoded
+  pub decoded_took : (b : List ℕ) (r : Result Message WireFault) → IsBytes b → Answers faults.NoMemory r (decoding b) → IfOk r (λ x. Within x × (b ≡ body x))
+  unfolding decoding
   decoded_took b (Ok x) h given = message_took b x h (body_answer_ok (length b) (message_at b) x given)
   decoded_took b (Err f) h given = tt
 

@@ -21,9 +21,9 @@ use Rattle.salt_wire.specs.declared.message.Message.{Message}
 use Rattle.salt_wire.specs.declared.message.Message.TheVariants as m
 use Rattle.salt_wire.specs.Spelling.{number, id, word, tree_bytes, entry, kind_and_fields as spelled}
 use Rattle.salt_wire.specs.Limits.{is_id, IsNumber, IsText, TreeFits, EntryFits, Within}
-use Rattle.salt_wire.specs.Decoding.{misread, byte_field, number_field, text_field, short_text, counted_or, is_word, id_field, word_field, jid_field, kind_field, value_or, value_field, items_field, fields_field, return_at, fired_at, start_at, mine_at, entry_after, entry_field, tree_field, job_field, pub_fields, have_fields, up_fields, up_have_fields, hello_fields, ask_publish_fields, ask_report_fields, ask_mine_fields, status_field, answer_fields, client_fields, message_fields, kind_and_fields, nothing_after, message_at, wire_fault, body_answer, decoded}
+use Rattle.salt_wire.specs.Decoding.{misread, byte_field, number_field, text_field, short_text, counted_or, is_word, id_field, word_field, jid_field, kind_field, value_or, value_field, items_field, fields_field, return_at, fired_at, start_at, mine_at, entry_after, entry_field, tree_field, job_field, pub_fields, have_fields, up_fields, up_have_fields, hello_fields, ask_publish_fields, ask_report_fields, ask_mine_fields, status_field, answer_fields, client_fields, message_fields, kind_and_fields, nothing_after, message_at, wire_fault, body_answer, decoding}
 use Rattle.salt_wire.specs.RoundTrip.{IsReadBack}
-use Rattle.salt_wire.specs.FirstFault.{IsTold, Field, Number, Byte, Status, Jid, Id, Word, Text, ShortText, TargetKind, Tree, AnyValue, Items, Pairs, Entry, is_kind, fields, job_fields, is_tag, entry_fields, Spelled, IsRight, Wrong, NoneStands, FirstWrong, EntryWrong, TreeWrong, FieldWrong, FirstFault}
+use Rattle.salt_wire.specs.FirstFault.{IsTold, Field, Number, Byte, Status, Jid, Id, Word, Text, ShortText, TargetKind, Tree, AnyValue, Items, Pairs, Entry, is_kind, fields, job_fields, is_tag, entry_fields, HasSpelling, IsRight, Wrong, NoneStands, FirstWrong, EntryWrong, TreeWrong, FieldWrong, FirstFault}
 use Rattle.salt_wire.proofs.Codec.{Lower, one_byte, IsByte, code, AnyKind, micros, IsJid, list_bytes, ListFits, map_bytes, MapFits, IsShortText, numbers, a_byte, texts, short_texts, ids, words, jids, kinds, values, lists, maps}
 use Rattle.salt_wire.proofs.MessageBack.{IsStatus, statuses, entries}
 
@@ -113,9 +113,9 @@ pairs_only b = both (misread b) _ _ (value_only b) (λ n. found_only (misread b)
 -- ---- a reader and where bytes are wrong for it
 
 -- a field that is told at its first byte
-pub at_front : {A : Type 0} (spell : A → List ℕ) (Right : A → Type 0) (read : Reader Misread A) → IsReadBack spell Right read → ((b : List ℕ) → Only (misread b) (read b)) → IsTold (NoneStands (Spelled spell Right)) read
+pub at_front : {A : Type 0} (spell : A → List ℕ) (Right : A → Type 0) (read : Reader Misread A) → IsReadBack spell Right read → ((b : List ℕ) → Only (misread b) (read b)) → IsTold (NoneStands (HasSpelling spell Right)) read
 at_front {A} spell Right read law only = record { met = met; first = first } where
-  met : (b : List ℕ) (e : Misread) → IsBytes b → read b ≡ Err e → (at : List ℕ) × NoneStands (Spelled spell Right) b at × (e ≡ BadField (length at))
+  met : (b : List ℕ) (e : Misread) → IsBytes b → read b ≡ Err e → (at : List ℕ) × NoneStands (HasSpelling spell Right) b at × (e ≡ BadField (length at))
   met b e h q = (
     b,
     (
@@ -127,7 +127,7 @@ at_front {A} spell Right read law only = record { met = met; first = first } whe
     (only b).is e q,
   )
 
-  first : (b at : List ℕ) → IsBytes b → NoneStands (Spelled spell Right) b at → read b ≡ Err (BadField (length at))
+  first : (b at : List ℕ) → IsBytes b → NoneStands (HasSpelling spell Right) b at → read b ≡ Err (BadField (length at))
   first b at h w = by (read b) refl where
     by : (r : Result (A × List ℕ) Misread) → read b ≡ r → r ≡ Err (BadField (length at))
     by (Ok x) q = let t = law.took b x h q in absurd (w.1 (spell x.0) x.1 (x.0, t.0, refl) t.1)
@@ -138,7 +138,7 @@ abbrev Chained : Wrong → (List ℕ → Type 0) → Wrong → Wrong
 Chained one Right more b at = one b at ⊎ ((front : List ℕ) × (rest : List ℕ) × Right front × (b ≡ front ++ rest) × more rest at)
 
 pub chain : {A C : Type 0} (spell : A → List ℕ) (Right : A → Type 0) (read : Reader Misread A) (one more : Wrong) (next : A × List ℕ → Result (C × List ℕ) Misread) → IsReadBack spell Right read → IsTold one read
-    → ((x : A) → IsTold more (λ b. next (x, b))) → IsTold (Chained one (Spelled spell Right) more) (λ b. read b >>= next)
+    → ((x : A) → IsTold more (λ b. next (x, b))) → IsTold (Chained one (HasSpelling spell Right) more) (λ b. read b >>= next)
 chain spell Right read one more next law told others = record {
   met = λ b e h q.
       elim (bind_err (read b) next e q) [
@@ -192,8 +192,8 @@ abbrev Then : Field → Wrong → Wrong
 Then f more = Chained (Plain f) (IsRight f) more
 
 plain : {A C : Type 0} (spell : A → List ℕ) (Right : A → Type 0) (read : Reader Misread A) → IsReadBack spell Right read → ((b : List ℕ) → Only (misread b) (read b)) → (more : Wrong) (next : A × List ℕ → Result (C × List ℕ) Misread)
-    → ((x : A) → IsTold more (λ b. next (x, b))) → IsTold (Chained (NoneStands (Spelled spell Right)) (Spelled spell Right) more) (λ b. read b >>= next)
-plain spell Right read law only more next others = chain spell Right read (NoneStands (Spelled spell Right)) more next law (at_front spell Right read law only) others
+    → ((x : A) → IsTold more (λ b. next (x, b))) → IsTold (Chained (NoneStands (HasSpelling spell Right)) (HasSpelling spell Right) more) (λ b. read b >>= next)
+plain spell Right read law only more next others = chain spell Right read (NoneStands (HasSpelling spell Right)) more next law (at_front spell Right read law only) others
 
 above : (n : ℕ) → (n ≡ 0 → ⊥) → 0 < n
 above zero h = absurd (h refl)
@@ -443,8 +443,8 @@ module _ (l : Lower) (trees : IsReadBack tree_bytes TreeFits tree_field) (tree_t
           let same : BadVersion ≡ f = err_is BadVersion f q in
           subst (IsFirst (version ∷ b)) same (λ rest e. eqb-false version 1 c (heads version 1 b rest e))
 
-    pub is_first : (b : List ℕ) (e : WireFault) → IsBytes b → decoded b ≡ Err e → FirstFault b e
-    unfolding decoded
+    pub is_first : (b : List ℕ) (e : WireFault) → IsBytes b → decoding b ≡ Err e → FirstFault b e
+    unfolding decoding
     is_first b e h q = let t = body_answer_err (length b) (message_at b) e q in subst (FirstFault b) (sym t.2) (message_fails b t.0 h t.1)
 
     -- ---- and back
@@ -460,8 +460,8 @@ module _ (l : Lower) (trees : IsReadBack tree_bytes TreeFits tree_field) (tree_t
       by true c = absurd (h b (ap (λ (n : ℕ). n ∷ b) (eqb-true version 1 c)))
       by false c = refl
 
-    versioned : (b rest : List ℕ) (f : Misread) → b ≡ 1 ∷ rest → after_version rest ≡ Err f → decoded b ≡ Err (wire_fault (length b) f)
-    unfolding decoded message_at
+    versioned : (b rest : List ℕ) (f : Misread) → b ≡ 1 ∷ rest → after_version rest ≡ Err f → decoding b ≡ Err (wire_fault (length b) f)
+    unfolding decoding message_at
     versioned b rest f e q = ap (λ (s : List ℕ). body_answer (length b) (message_at s)) e ∙ ap (body_answer (length b)) q
 
     kind_met : (rest : List ℕ) → ((kind : ℕ) (more : List ℕ) → rest ≡ kind ∷ more → is_kind kind ≡ false) → after_version rest ≡ Err BadKind
@@ -481,8 +481,8 @@ module _ (l : Lower) (trees : IsReadBack tree_bytes TreeFits tree_field) (tree_t
         ap (λ r. r >>= nothing_after) (law.written message rest h)
         ∙ ap (λ c. cond c (Ok message) (Err (Trailing (length rest)))) (ne_eqb (length rest) 0 (λ e. omega (arith, e, lt)))
 
-    pub is_met : (b : List ℕ) (e : WireFault) → IsBytes b → FirstFault b e → decoded b ≡ Err e
-    unfolding decoded
+    pub is_met : (b : List ℕ) (e : WireFault) → IsBytes b → FirstFault b e → decoding b ≡ Err e
+    unfolding decoding
     is_met b faults.NoMemory h w = absurd w
     is_met b faults.BadVersion h w = ap (body_answer (length b)) (version_met b w)
     is_met b faults.BadKind h w = versioned b w.0 BadKind w.1 (kind_met w.0 w.2)
@@ -495,7 +495,7 @@ module _ (l : Lower) (trees : IsReadBack tree_bytes TreeFits tree_field) (tree_t
         versioned b (spelled w.0 ++ w.1) (Trailing (length w.1)) w.4 (trailing_met w.0 w.1 w.2 w.3) ∙ ap (λ (n : ℕ). Err (faults.Trailing n)) place
 
 -- what was answered is the first fault, unless memory ran out
-pub answer_is_first : (b : List ℕ) (r : Result Message WireFault) → IsBytes b → ((b : List ℕ) (e : WireFault) → IsBytes b → decoded b ≡ Err e → FirstFault b e) → Answers faults.NoMemory r (decoded b) → IfErr r (λ e. e ≢ faults.NoMemory → FirstFault b e)
+pub answer_is_first : (b : List ℕ) (r : Result Message WireFault) → IsBytes b → ((b : List ℕ) (e : WireFault) → IsBytes b → decoding b ≡ Err e → FirstFault b e) → Answers faults.NoMemory r (decoding b) → IfErr r (λ e. e ≢ faults.NoMemory → FirstFault b e)
 answer_is_first b (Ok x) h first given = tt
 answer_is_first b (Err e) h first (inl p) = λ ne. absurd (ne p)
 answer_is_first b (Err e) h first (inr q) = λ ne. first b e h q

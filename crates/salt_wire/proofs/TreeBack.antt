@@ -4,7 +4,7 @@ use Rattle.std.specs.Int.{w16, to_be_bytes}
 use Rattle.std.specs.List.{list_all}
 use Rattle.std.proofs.lemmas.Bool.{leb-true, le-leb, eqb-true, ne_eqb, or_cases}
 use Rattle.salt_value.specs.Readers.{◌>>=◌, when, several}
-use Rattle.salt_value.specs.Spelling.{text, joined}
+use Rattle.salt_value.specs.Spelling.{text, concatenation}
 use Rattle.salt_value.specs.WellFormed.{is_text}
 use Rattle.salt_value.specs.Decoding.{IsBytes, number_or}
 use Rattle.target_tree.specs.declared.target.Target.{Target, out-Target, roll-Target, roll-out-Target}
@@ -114,23 +114,23 @@ module _ (l : Lower) where
       let b = both_true (leb 1 (length x)) (leb (length x) 4096) a.1 in
       rw ((texts l).written x rest a.0, b.0, b.1, le-leb stop (length rest) le) refl
 
-  several_written : (f : Misread) (xs : List (List ℕ)) (rest : List ℕ) → list_all is_id xs ≡ true → several (id_or f) (length xs) (joined (map id xs) ++ rest) ≡ Ok (xs, rest)
+  several_written : (f : Misread) (xs : List (List ℕ)) (rest : List ℕ) → list_all is_id xs ≡ true → several (id_or f) (length xs) (concatenation (map id xs) ++ rest) ≡ Ok (xs, rest)
   unfolding several
   several_written f [] rest h = refl
   several_written f (x ∷ xs) rest h =
       let a = both_true (is_id x) (list_all is_id xs) h in
-      ap (several (id_or f) (suc (length xs))) (append_assoc (id x) (joined (map id xs)) rest)
-      ∙ rw ((ids_or l f).written x (joined (map id xs) ++ rest) (is_id-IsId x a.0), several_written f xs rest a.1) refl
+      ap (several (id_or f) (suc (length xs))) (append_assoc (id x) (concatenation (map id xs)) rest)
+      ∙ rw ((ids_or l f).written x (concatenation (map id xs) ++ rest) (is_id-IsId x a.0), several_written f xs rest a.1) refl
 
   pub leaf_ids_written : (stop : ℕ) (xs : List (List ℕ)) (rest : List ℕ) → (leb 1 (length xs) && (leb (length xs) 65535 && list_all is_id xs)) ≡ true → stop ≤ length rest
-      → leaf_ids stop ((to_be_bytes w16 (length xs) ++ joined (map id xs)) ++ rest) ≡ Ok (xs, rest)
+      → leaf_ids stop ((to_be_bytes w16 (length xs) ++ concatenation (map id xs)) ++ rest) ≡ Ok (xs, rest)
   unfolding leaf_ids
   leaf_ids_written stop xs rest h le =
       let a = both_true (leb 1 (length xs)) (leb (length xs) 65535 && list_all is_id xs) h in
       let b = both_true (leb (length xs) 65535) (list_all is_id xs) a.1 in
       let small : length xs ≤ 65535 = leb-true _ _ b.0 in
-      let f = misread ((to_be_bytes w16 (length xs) ++ joined (map id xs)) ++ rest) in
-      rw (l.numbers_written w16 f (length xs) (joined (map id xs) ++ rest) (omega arith) (omega (arith, small)), several_written f xs rest b.1, a.0, le-leb stop (length rest) le) refl
+      let f = misread ((to_be_bytes w16 (length xs) ++ concatenation (map id xs)) ++ rest) in
+      rw (l.numbers_written w16 f (length xs) (concatenation (map id xs) ++ rest) (omega arith) (omega (arith, small)), several_written f xs rest b.1, a.0, le-leb stop (length rest) le) refl
 
   pub tag_written : (room : Room) (tag : ℕ) (more : List ℕ) → tag < 256 → 1 ≤ room.nodes → cost tag ≤ room.patterns → room.stop ≤ length more
       → tag_field room (tag ∷ more) ≡ Ok (tag, made (room.nodes - 1) (room.patterns - cost tag) room.stop, more)
@@ -168,7 +168,7 @@ module _ (l : Lower) where
     unfolding node_after list_node
     again_IdList xs room rest h deep few pats le =
         let r = made (room.nodes - 1) (room.patterns - 0) room.stop in
-        let body = to_be_bytes w16 (length xs) ++ joined (map id xs) in
+        let body = to_be_bytes w16 (length xs) ++ concatenation (map id xs) in
         let longer : room.stop ≤ length (body ++ rest) = omega (arith, le, length-append body rest) in
         let one = at-IdList nodes_layer xs in
         let none = at-IdList pattern_count_layer xs in
@@ -317,7 +317,7 @@ module _ (l : Lower) where
   record SeveralTook (n : ℕ) (b : List ℕ) (x : List (List ℕ) × List ℕ) : Type 0 where
     count : length x.0 ≡ n
     rights : list_all is_id x.0 ≡ true
-    parts : b ≡ joined (map id x.0) ++ x.1
+    parts : b ≡ concatenation (map id x.0) ++ x.1
     are_bytes : IsBytes x.1
 
   several_took : (f : Misread) (n : ℕ) (b : List ℕ) (x : List (List ℕ) × List ℕ) → IsBytes b → several (id_or f) n b ≡ Ok x → SeveralTook n b x
@@ -334,13 +334,13 @@ module _ (l : Lower) where
       subst (λ (y : List (List ℕ) × List ℕ). SeveralTook (suc n) b y) (ok_is all x c.2) (record {
         count = ap suc others.count;
         rights = both (is_id a.0.0) (list_all is_id c.0.0) (IsId-is_id a.0.0 first.0) others.rights;
-        parts = join b (id a.0.0) a.0.1 (joined (map id c.0.0)) c.0.1 first.1 others.parts;
+        parts = join b (id a.0.0) a.0.1 (concatenation (map id c.0.0)) c.0.1 first.1 others.parts;
         are_bytes = others.are_bytes;
       })
 
   pub record IdsTook (stop : ℕ) (b : List ℕ) (x : List (List ℕ) × List ℕ) : Type 0 where
     pub rights : (leb 1 (length x.0) && (leb (length x.0) 65535 && list_all is_id x.0)) ≡ true
-    pub parts : b ≡ (to_be_bytes w16 (length x.0) ++ joined (map id x.0)) ++ x.1
+    pub parts : b ≡ (to_be_bytes w16 (length x.0) ++ concatenation (map id x.0)) ++ x.1
     pub are_bytes : IsBytes x.1
     pub inside : stop ≤ length x.1
 
@@ -357,7 +357,7 @@ module _ (l : Lower) where
       let small : length c.0.0 ≤ 65535 = omega (arith, n.0, s.count) in
       subst (λ (y : List (List ℕ) × List ℕ). IdsTook stop b y) w.1 (record {
         rights = both _ _ (le-leb 1 _ some) (both _ _ (le-leb _ 65535 small) s.rights);
-        parts = join b (to_be_bytes w16 (length c.0.0)) a.0.1 (joined (map id c.0.0)) c.0.1 (n.1 ∙ ap (λ k. to_be_bytes w16 k ++ a.0.1) (sym s.count)) s.parts;
+        parts = join b (to_be_bytes w16 (length c.0.0)) a.0.1 (concatenation (map id c.0.0)) c.0.1 (n.1 ∙ ap (λ k. to_be_bytes w16 k ++ a.0.1) (sym s.count)) s.parts;
         are_bytes = s.are_bytes;
         inside = leb-true _ _ p.1;
       })

@@ -5,7 +5,7 @@ use Rattle.std.specs.List.{list_all}
 use Rattle.std.proofs.lemmas.Bool.{leb-true, le-leb}
 use Rattle.std.proofs.lemmas.List.Sums.{sum_by-cons}
 use Rattle.salt_value.specs.Readers.{◌>>=◌, when, several}
-use Rattle.salt_value.specs.Spelling.{text, joined}
+use Rattle.salt_value.specs.Spelling.{text, concatenation}
 use Rattle.salt_value.specs.Decoding.{IsBytes}
 use Rattle.target_tree.specs.declared.target.Target.{Target}
 use Rattle.target_tree.specs.declared.target.Target.TheVariants as t
@@ -15,7 +15,7 @@ use Rattle.salt_wire.specs.declared.tree.Room.{Room}
 use Rattle.salt_wire.specs.Spelling.{id}
 use Rattle.salt_wire.specs.Limits.{is_id}
 use Rattle.salt_wire.specs.Decoding.{misread, id_or, ends_before, is_text_tag, is_pattern_tag, room_after, with_room, tag_field, leaf_text, leaf_ids, leaf, text_node, list_node, not_node, and_node, or_node, node_after, tree_at, whole_room, tree_field}
-use Rattle.salt_wire.specs.FirstFault.{IsTold, After, LeafText, LeafIds, Subtrees, NoNode, after_bytes, is_node, subtrees, AreIds, IsAfter, Node, nodes_bytes, pattern_leaves, Unended, InLimits, NodeWrong, NodesWrong, TreeWrong}
+use Rattle.salt_wire.specs.FirstFault.{IsTold, After, LeafText, LeafIds, Subtrees, NoNode, after_bytes, is_node, subtrees, AreIds, IsAfter, Node, nodes_bytes, pattern_leaves, AreUnended, InLimits, NodeWrong, NodesWrong, TreeWrong}
 use Rattle.salt_wire.proofs.Codec.{Lower, bind_ok, ok_is}
 use Rattle.salt_wire.proofs.WriteLemmas.{both_true}
 use Rattle.salt_wire.proofs.TreeBack.{made, cost, TagTook, leaf_text_written, leaf_ids_written, tag_written, tag_took, leaf_text_took, leaf_ids_took, tree_took}
@@ -82,7 +82,7 @@ module _ (l : Lower) where
       let c = both_true (leb 1 (length p.0.0)) (leb (length p.0.0) 65535 && list_all is_id p.0.0) k.rights in
       let d = both_true (leb (length p.0.0) 65535) (list_all is_id p.0.0) c.1 in
       let are : AreIds p.0.0 = (leb-true _ _ c.0, leb-true _ _ d.0, d.1) in
-      subst (AfterTook LeafIds stop b) (ok_is p.0.1 rest p.2) (record { field = to_be_bytes w16 (length p.0.0) ++ joined (map id p.0.0); right = (p.0.0, are, refl); parts = k.parts; are_bytes = k.are_bytes; inside = k.inside })
+      subst (AfterTook LeafIds stop b) (ok_is p.0.1 rest p.2) (record { field = to_be_bytes w16 (length p.0.0) ++ concatenation (map id p.0.0); right = (p.0.0, are, refl); parts = k.parts; are_bytes = k.are_bytes; inside = k.inside })
   after_took (Subtrees n) stop b rest h le q = subst (AfterTook (Subtrees n) stop b) (ok_is b rest q) (record { field = []; right = refl; parts = refl; are_bytes = h; inside = le })
   after_took NoNode stop b rest h le q = absurd cc
 
@@ -232,7 +232,7 @@ module _ (n p q m j : ℕ) (x : Node) (patterns : q + cost x.0 ≡ p) (long : j 
         x ∷ w.0,
         w.1,
         parts ∙ ap (λ (s : List ℕ). (x.0 ∷ x.1) ++ s) w.2 ∙ sym (append_assoc (x.0 ∷ x.1) (nodes_bytes w.0) w.1),
-        (omega arith, right, subst (λ i. Unended i w.0) same w.3),
+        (omega arith, right, subst (λ i. AreUnended i w.0) same w.3),
         grow w.0 w.4,
         wrong_grow w.0 w.1 at w.5,
       )
@@ -297,7 +297,7 @@ module _ (l : Lower) where
           let long : suc (length g.field) ≤ m = omega (arith, g.inside, e, len, ap length g.parts, length-append g.field r) in
           absurd (w.4.1 g.field r (g.right, one_node (suc n) p m (w.0, g.field) (omega arith) few long) g.parts)
 
-  nodes_first : (done : List Node) (n p m k s : ℕ) (b rest at : List ℕ) → IsBytes b → s ≡ length b - m → b ≡ nodes_bytes done ++ rest → Unended k done → InLimits n p m done → NodeWrong n p m done rest at
+  nodes_first : (done : List Node) (n p m k s : ℕ) (b rest at : List ℕ) → IsBytes b → s ≡ length b - m → b ≡ nodes_bytes done ++ rest → AreUnended k done → InLimits n p m done → NodeWrong n p m done rest at
       → nodes_at n k p s b ≡ Err (BadField (length at))
   nodes_first [] n p m zero s b rest at h e parts un lim w = absurd (omega (arith, un))
   nodes_first [] n p m (suc k) s b rest at h e parts un lim w = node_first n p m k s b at h e (subst (λ (x : List ℕ). NodeWrong n p m [] x at) (sym parts) w)
@@ -315,7 +315,7 @@ module _ (l : Lower) where
       let same : suc k - 1 + subtrees (after_bytes x.0) ≡ k + subtrees (after_bytes x.0) = omega arith in
       node_again n k p s x b more h split few le un.1
       ∙ nodes_first done n (p - cost x.0) (m - suc (length x.1)) (k + subtrees (after_bytes x.0)) s more rest at (IsBytes-after (x.0 ∷ x.1) b more split h) (omega (arith, e, len, long)) refl
-      (subst (λ i. Unended i done) same un.2) (shrink n p (p - cost x.0) m (m - suc (length x.1)) x q j done lim) (wrong_shrink n p (p - cost x.0) m (m - suc (length x.1)) x q j done rest at w)
+      (subst (λ i. AreUnended i done) same un.2) (shrink n p (p - cost x.0) m (m - suc (length x.1)) x q j done lim) (wrong_shrink n p (p - cost x.0) m (m - suc (length x.1)) x q j done rest at w)
 
   -- where the nodes of so many trees go wrong
   abbrev Met : ℕ → ℕ → ℕ → ℕ → List ℕ → Misread → Type 0

@@ -1,7 +1,7 @@
 -- Each definition on trees, at each kind of node.
 use Rattle.std.proofs.Common.{◌≡◌, ℕ, true, List, ◌∷◌, ◌++◌, length, map, sym, ap, ◌∙◌}
 use Rattle.std.specs.Int.{w16, to_be_bytes}
-use Rattle.salt_value.specs.Spelling.{joined}
+use Rattle.salt_value.specs.Spelling.{concatenation}
 use Rattle.target_tree.specs.declared.target.Target.{Target, fold-Target, fold-roll-Target}
 use Rattle.target_tree.specs.declared.target.Target.TheVariants as t
 use Rattle.target_tree.specs.declared.target.Target.TheVariants.{rolls-IdGlob, rolls-IdPcre, rolls-IdList, rolls-GrainGlob, rolls-GrainPcre, rolls-PillarGlob, rolls-PillarPcre, rolls-Not, rolls-And, rolls-Or}
@@ -46,7 +46,7 @@ module _ {A : Type 0} (layer : Target-F A → A) where
 
 -- ---- trees as bytes, and right trees
 
-pub tree-IdList : (z : Target) (x : List (List ℕ)) → z ≡ t.IdList x → tree_bytes z ≡ 3 ∷ (to_be_bytes w16 (length x) ++ joined (map id x))
+pub tree-IdList : (z : Target) (x : List (List ℕ)) → z ≡ t.IdList x → tree_bytes z ≡ 3 ∷ (to_be_bytes w16 (length x) ++ concatenation (map id x))
 tree-IdList z x e = ap tree_bytes e ∙ at-IdList tree_layer x
 
 pub tree-Not : (z x : Target) → z ≡ t.Not x → tree_bytes z ≡ 8 ∷ tree_bytes x

@@ -422,8 +422,8 @@ body_answer n (Ok x) = Ok x
 body_answer n (Err e) = Err (wire_fault n e)
 
 -- the message that a body is, or its first fault
-unfoldable pub decoded : List ℕ → Result Message WireFault
-decoded body = body_answer (length body) (message_at body)
+unfoldable pub decoding : List ℕ → Result Message WireFault
+decoding body = body_answer (length body) (message_at body)
 
 -- a field and the place after it, in a body of n bytes
 abbrev pub with_place : {A : Type 0} → ℕ → A × List ℕ → A × ℕ

@@ -5,7 +5,7 @@ use Rattle.std.specs.Int.{w16, w64, to_be_bytes}
 use Rattle.salt_value.specs.Id.{IsId}
 use Rattle.salt_value.specs.Word.{IsWord}
 use Rattle.salt_value.specs.Jid.{greatest_jid}
-use Rattle.salt_value.specs.Spelling.{bytes, text, joined}
+use Rattle.salt_value.specs.Spelling.{bytes, text, concatenation}
 use Rattle.salt_value.specs.WellFormed.{ValueFits}
 use Rattle.salt_value.specs.declared.value.Value.TheVariants as v
 use Rattle.target_tree.specs.Kinds.{kind_code}
@@ -72,8 +72,8 @@ entry_fields tag =
 -- ---- right fields
 
 -- these bytes spell something within its limits
-abbrev pub Spelled : {A : Type 0} → (A → List ℕ) → (A → Type 0) → List ℕ → Type 0
-Spelled {A} spell Fits b = (x : A) × Fits x × (b ≡ spell x)
+abbrev pub HasSpelling : {A : Type 0} → (A → List ℕ) → (A → Type 0) → List ℕ → Type 0
+HasSpelling {A} spell Fits b = (x : A) × Fits x × (b ≡ spell x)
 
 -- one byte
 abbrev pub byte : ℕ → List ℕ
@@ -81,20 +81,20 @@ byte n = n ∷ []
 
 -- these bytes are right for a field
 abbrev pub IsRight : Field → List ℕ → Type 0
-IsRight Number = Spelled number IsNumber
-IsRight Byte = Spelled byte (λ n. n < 256)
-IsRight Status = Spelled byte (λ n. is_status n ≡ true)
-IsRight Jid = Spelled (λ n. to_be_bytes w64 n) (λ n. n ≤ greatest_jid)
-IsRight Id = Spelled id IsId
-IsRight Word = Spelled word IsWord
-IsRight Text = Spelled text IsText
-IsRight (ShortText most) = Spelled text (λ t. IsText t × (length t ≤ most))
-IsRight TargetKind = Spelled (λ kind. kind_code kind ∷ []) (λ kind. Unit {0})
-IsRight Tree = Spelled tree_bytes TreeFits
-IsRight AnyValue = Spelled bytes ValueFits
-IsRight Items = Spelled (λ xs. bytes (v.List xs)) (λ xs. ValueFits (v.List xs))
-IsRight Pairs = Spelled (λ ps. bytes (v.Map ps)) (λ ps. ValueFits (v.Map ps))
-IsRight Entry = Spelled entry EntryFits
+IsRight Number = HasSpelling number IsNumber
+IsRight Byte = HasSpelling byte (λ n. n < 256)
+IsRight Status = HasSpelling byte (λ n. is_status n ≡ true)
+IsRight Jid = HasSpelling (λ n. to_be_bytes w64 n) (λ n. n ≤ greatest_jid)
+IsRight Id = HasSpelling id IsId
+IsRight Word = HasSpelling word IsWord
+IsRight Text = HasSpelling text IsText
+IsRight (ShortText most) = HasSpelling text (λ t. IsText t × (length t ≤ most))
+IsRight TargetKind = HasSpelling (λ kind. kind_code kind ∷ []) (λ kind. Unit {0})
+IsRight Tree = HasSpelling tree_bytes TreeFits
+IsRight AnyValue = HasSpelling bytes ValueFits
+IsRight Items = HasSpelling (λ xs. bytes (v.List xs)) (λ xs. ValueFits (v.List xs))
+IsRight Pairs = HasSpelling (λ ps. bytes (v.Map ps)) (λ ps. ValueFits (v.Map ps))
+IsRight Entry = HasSpelling entry EntryFits
 
 -- ---- wrong fields
 
@@ -113,7 +113,7 @@ FirstWrong wrong (f ∷ fs) b at = wrong f b at ⊎ ((front : List ℕ) × (rest
 
 -- an entry: no tag of an entry stands there, or one does and a field after it is wrong
 abbrev pub EntryWrong : Wrong
-EntryWrong b at = NoneStands (Spelled byte (λ tag. is_tag tag ≡ true)) b at
+EntryWrong b at = NoneStands (HasSpelling byte (λ tag. is_tag tag ≡ true)) b at
     ⊎ ((tag : ℕ) × (rest : List ℕ) × (b ≡ tag ∷ rest) × FirstWrong (λ f. NoneStands (IsRight f)) (entry_fields tag) rest at)
 
 -- ---- trees: their nodes in order from the root, left before right
@@ -147,8 +147,8 @@ AreIds ids = (1 ≤ length ids) × (length ids ≤ most_leaf_ids) × (list_all i
 
 -- right bytes between a tag and the next node
 abbrev pub IsAfter : After → List ℕ → Type 0
-IsAfter LeafText = Spelled text (λ t. is_leaf_text t ≡ true)
-IsAfter LeafIds = Spelled (λ ids. to_be_bytes w16 (length ids) ++ joined (map id ids)) AreIds
+IsAfter LeafText = HasSpelling text (λ t. is_leaf_text t ≡ true)
+IsAfter LeafIds = HasSpelling (λ ids. to_be_bytes w16 (length ids) ++ concatenation (map id ids)) AreIds
 IsAfter (Subtrees n) = λ b. b ≡ []
 IsAfter NoNode = λ b. ⊥
 
@@ -158,16 +158,16 @@ Node = ℕ × List ℕ
 
 -- the bytes of some nodes
 abbrev pub nodes_bytes : List Node → List ℕ
-nodes_bytes nodes = joined (map (λ (n : Node). n.0 ∷ n.1) nodes)
+nodes_bytes nodes = concatenation (map (λ (n : Node). n.0 ∷ n.1) nodes)
 
 -- how many of some nodes are leaves with a pattern
 abbrev pub pattern_leaves : List Node → ℕ
 pattern_leaves nodes = count_by (λ (n : Node). is_pattern_tag n.0) nodes
 
 -- right nodes of so many trees, from the left: before each of them and after the last a node is still to come
-abbrev pub Unended : ℕ → List Node → Type 0
-Unended trees [] = 0 < trees
-Unended trees (n ∷ ns) = (0 < trees) × IsAfter (after_bytes n.0) n.1 × Unended (trees - 1 + subtrees (after_bytes n.0)) ns
+abbrev pub AreUnended : ℕ → List Node → Type 0
+AreUnended trees [] = 0 < trees
+AreUnended trees (n ∷ ns) = (0 < trees) × IsAfter (after_bytes n.0) n.1 × AreUnended (trees - 1 + subtrees (after_bytes n.0)) ns
 
 -- of a tree that may have so many nodes, leaves with a pattern and bytes
 module _ (node_limit pattern_limit byte_limit : ℕ) where
@@ -183,12 +183,12 @@ module _ (node_limit pattern_limit byte_limit : ℕ) where
 
   -- the node after some nodes is wrong: no tag that it may have stands there, or one does and what stands after it is wrong
   abbrev pub NodeWrong : List Node → Wrong
-  NodeWrong done b at = NoneStands (Spelled byte (MayHave done)) b at
+  NodeWrong done b at = NoneStands (HasSpelling byte (MayHave done)) b at
       ⊎ ((tag : ℕ) × (rest : List ℕ) × (b ≡ tag ∷ rest) × MayHave done tag × NoneStands (λ front. IsAfter (after_bytes tag) front × InLimits (done ++ (tag, front) ∷ [])) rest at)
 
   -- right nodes of so many trees stand there, within the limits, and then a wrong one
   abbrev pub NodesWrong : ℕ → Wrong
-  NodesWrong trees b at = (done : List Node) × (rest : List ℕ) × (b ≡ nodes_bytes done ++ rest) × Unended trees done × InLimits done × NodeWrong done rest at
+  NodesWrong trees b at = (done : List Node) × (rest : List ℕ) × (b ≡ nodes_bytes done ++ rest) × AreUnended trees done × InLimits done × NodeWrong done rest at
 
 -- a tree, within its limits
 abbrev pub TreeWrong : Wrong

@@ -1,7 +1,7 @@
 -- The bytes of each message, by cases on the message.
 use Rattle.std.specs.Prelude.{ℕ, List, [], ◌∷◌, ◌++◌, length, map}
 use Rattle.std.specs.Int.{w16, w32, w64, to_be_bytes}
-use Rattle.salt_value.specs.Spelling.{bytes, text, joined}
+use Rattle.salt_value.specs.Spelling.{bytes, text, concatenation}
 use Rattle.salt_value.specs.declared.value.Value.TheVariants as v
 use Rattle.target_tree.specs.Kinds.{kind_code}
 use Rattle.target_tree.specs.declared.target.Target.{Target, fold-Target}
@@ -30,7 +30,7 @@ word bytes = to_be_bytes w16 (length bytes) ++ bytes
 abbrev pub tree_layer : Target-F (List ℕ) → List ℕ
 tree_layer (Target-F.IdGlob glob) = node_code code.IdGlob ∷ text glob
 tree_layer (Target-F.IdPcre pattern) = node_code code.IdPcre ∷ text pattern
-tree_layer (Target-F.IdList ids) = node_code code.IdList ∷ (to_be_bytes w16 (length ids) ++ joined (map id ids))
+tree_layer (Target-F.IdList ids) = node_code code.IdList ∷ (to_be_bytes w16 (length ids) ++ concatenation (map id ids))
 tree_layer (Target-F.GrainGlob glob) = node_code code.GrainGlob ∷ text glob
 tree_layer (Target-F.GrainPcre pattern) = node_code code.GrainPcre ∷ text pattern
 tree_layer (Target-F.PillarGlob glob) = node_code code.PillarGlob ∷ text glob

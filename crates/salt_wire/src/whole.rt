@@ -2,7 +2,7 @@
 ghost use Rattle.std.specs.Prelude.{◌≡◌, ◌≤◌, ◌-◌, Ok, Err, IfOk, IfErr, length};
 ghost use Rattle.salt_value.specs.Readers.{Answers};
 ghost use Rattle.salt_wire.specs.declared.fault.WireFault.TheVariants as faults;
-ghost use Rattle.salt_wire.specs.Decoding.{wire_fault, field_at, decoded, id_field};
+ghost use Rattle.salt_wire.specs.Decoding.{wire_fault, field_at, decoding, id_field};
 
 use crate::fault::{Misread, WireFault};
 use crate::fields::{Parsed, id_at};
@@ -29,9 +29,9 @@ fn place(misread: Misread, all: usize) -> WireFault
 }
 
 // The message that this body is.
-#[tactic(auto, unfolding(crate::specs::Decoding::decoded))]
+#[tactic(auto, unfolding(crate::specs::Decoding::decoding))]
 pub fn whole(alloc: Global, body: &[u8]) -> Result<Message, WireFault>
-    ensures { Answers faults.NoMemory result (decoded body.now) }
+    ensures { Answers faults.NoMemory result (decoding body.now) }
 {
     match message_at(alloc, body) {
         Ok(message) => Ok(message),

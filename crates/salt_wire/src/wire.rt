@@ -5,7 +5,7 @@ ghost use Rattle.salt_value.specs.Word.{IsWord};
 ghost use Rattle.salt_wire.specs.Spelling as spelling;
 ghost use Rattle.salt_wire.specs.Limits.{JobFits, EntryFits, Within};
 ghost use Rattle.salt_value.specs.Readers.{Answers};
-ghost use Rattle.salt_wire.specs.Decoding.{field_at, decoded, id_field, word_field, job_field, entry_field};
+ghost use Rattle.salt_wire.specs.Decoding.{field_at, decoding, id_field, word_field, job_field, entry_field};
 ghost use Rattle.salt_wire.specs.FirstFault as wrong;
 ghost use Rattle.salt_wire.specs.FirstFault.{FirstFault, FirstWrong, FieldWrong, FaultAt, job_fields};
 ghost use Rattle.salt_wire.specs.RoundTrip.{Spans};
@@ -36,7 +36,7 @@ pub fn decode(alloc: Global, body: &[u8]) -> Result<Message, WireFault>
     // The first fault of the body is answered, unless memory runs out.
     ensures first { (e : WireFault) → FirstFault body.now e → Answers faults.NoMemory result (Err e) }
     // All of this, with the faults and their places, as a function.
-    ensures exact { Answers faults.NoMemory result (decoded body.now) }
+    ensures exact { Answers faults.NoMemory result (decoding body.now) }
 {
     messages_read_back();
     first_fault_is_met();

@@ -1,7 +1,7 @@
 //! Messages written as bytes. After an error some of the bytes may stand at the end.
 ghost use Rattle.std.specs.Prelude.{◌≡◌, ◌<◌, ◌≤◌, ◌^◌, ◌++◌, ◌∷◌, true, List, ℕ, length, map, take, OnOk, OnErr};
 ghost use Rattle.std.specs.Int.{w16, w64, to_be_bytes};
-ghost use Rattle.salt_value.specs.Spelling.{bytes, text as spelled_text, joined};
+ghost use Rattle.salt_value.specs.Spelling.{bytes, text as spelled_text, concatenation};
 ghost use Rattle.target_tree.specs.Kinds.{kind_code};
 ghost use Rattle.salt_value.specs.WellFormed.{ValueFits};
 ghost use Rattle.salt_value.specs.declared.value.Value.TheVariants as v;
@@ -77,7 +77,7 @@ fn put_fields(out: &mut Vec<u8>, pairs: &[(Text, Value)]) -> Result<(), AllocErr
 // Ids, after the two bytes of their number.
 fn put_ids(out: &mut Vec<u8>, ids: &[MinionId]) -> Result<(), AllocError>
     requires { length ids.now ≤ 65535 }
-    ensures ok { OnOk result (out.new.items ≡ out.old.items ++ (to_be_bytes w16 (length ids.now) ++ joined (map spelling.id ids.now))) }
+    ensures ok { OnOk result (out.new.items ≡ out.old.items ++ (to_be_bytes w16 (length ids.now) ++ concatenation (map spelling.id ids.now))) }
     ensures err { OnErr result ((more : List ℕ) × (out.new.items ≡ out.old.items ++ more)) }
 {
     put_u16(out, ids.len() as u16)?;

@@ -12,7 +12,7 @@ abbrev pub Lacks : ℕ → List ℕ → Type 0
 Lacks mark bytes = AllByRecursion (λ b. b == mark ≡ false) bytes
 
 -- words parted by one space
-abbrev pub spaced : List (List ℕ) → List ℕ
-spaced [] = []
-spaced (word ∷ []) = word
-spaced (word ∷ next ∷ words) = word ++ 32 ∷ spaced (next ∷ words)
+abbrev pub spaced_words : List (List ℕ) → List ℕ
+spaced_words [] = []
+spaced_words (word ∷ []) = word
+spaced_words (word ∷ next ∷ words) = word ++ 32 ∷ spaced_words (next ∷ words)

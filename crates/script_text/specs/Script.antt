@@ -10,7 +10,7 @@ use Rattle.fleet_turns.specs.declared.turn.Turn.{Turn}
 use Rattle.fleet_turns.specs.declared.turn.Turn.TheVariants.{Publish, Send, Deliver, Report, Packet}
 use Rattle.fleet_turns.specs.Turns.{IsTurn}
 use Rattle.script_text.specs.declared.script.Script.{Script}
-use Rattle.script_text.specs.Lines.{lines_of, spaced}
+use Rattle.script_text.specs.Lines.{lines_of, spaced_words}
 
 -- a byte of A-Z and a-z
 abbrev pub is_letter : ℕ → Bool
@@ -59,16 +59,16 @@ abbrev pub MayStand : FleetConfig → Turn → Type 0
 MayStand f turn = IsTurn f turn × IsBuilt turn
 
 -- the list of one quoted pattern
-abbrev pub quoted : List ℕ → List ℕ
-quoted tgt = codes "[\"" ++ (tgt ++ codes "\"]")
+abbrev pub quoted_list : List ℕ → List ℕ
+quoted_list tgt = codes "[\"" ++ (tgt ++ codes "\"]")
 
 -- the line of a turn
 abbrev pub turn_line : FleetConfig → Turn → List ℕ
-turn_line f (Publish moment tgt fun args) = spaced (codes "publish" ∷ decimal moment ∷ codes "glob" ∷ codes "test.ping" ∷ quoted tgt ∷ [])
-turn_line f (Send from to count) = spaced (codes "send" ∷ id_of f.tree from ∷ id_of f.tree to ∷ decimal count ∷ [])
-turn_line f (Deliver i) = spaced (codes "deliver" ∷ decimal i ∷ [])
-turn_line f (Report jid) = spaced (codes "report" ∷ jid_text jid ∷ [])
-turn_line f (Packet i) = spaced (codes "packet" ∷ decimal i ∷ [])
+turn_line f (Publish moment tgt fun args) = spaced_words (codes "publish" ∷ decimal moment ∷ codes "glob" ∷ codes "test.ping" ∷ quoted_list tgt ∷ [])
+turn_line f (Send from to count) = spaced_words (codes "send" ∷ id_of f.tree from ∷ id_of f.tree to ∷ decimal count ∷ [])
+turn_line f (Deliver i) = spaced_words (codes "deliver" ∷ decimal i ∷ [])
+turn_line f (Report jid) = spaced_words (codes "report" ∷ jid_text jid ∷ [])
+turn_line f (Packet i) = spaced_words (codes "packet" ∷ decimal i ∷ [])
 
 -- the line of an id
 abbrev pub id_line : List ℕ → List ℕ

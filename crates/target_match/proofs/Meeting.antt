@@ -14,7 +14,7 @@ use Rattle.salt_value.specs.declared.value.Value.TheOpen.{Value-F}
 use Rattle.target_match.specs.Patterns.{starts}
 use Rattle.target_match.specs.Holds.{glob_holds, pattern_holds}
 use Rattle.target_match.specs.Paths.{parts, path_of, pattern_of}
-use Rattle.target_match.specs.Data.{Test, meets_layer, meets, map_meets, told_pairs, child_passes, reached_layer, reached, map_reached, reached_pairs}
+use Rattle.target_match.specs.Data.{Test, meets_layer, meets, map_meets, told_pairs, child_passes, reaches_layer, reaches, map_reaches, reaches_pairs}
 use Rattle.target_match.proofs.Splits.{parts-joined, some_parts}
 
 any-map : (items : List Value) (ps : List (List ℕ)) → list_any (λ item. item ps) (map meets items) ≡ list_any (λ v. meets v ps) items
@@ -117,20 +117,20 @@ pub keys-told : (f : Value → Test) (test : List ℕ → Bool) (pairs : List (L
 keys-told f test [] = refl
 keys-told f test (x ∷ pairs) = ap (λ b. test x.0 || b) (keys-told f test pairs)
 
-any-reached : (test : List ℕ → Bool) (items : List Value) (ps : List (List ℕ)) → list_any (λ item. item ps) (map (reached test) items) ≡ list_any (λ v. reached test v ps) items
+any-reached : (test : List ℕ → Bool) (items : List Value) (ps : List (List ℕ)) → list_any (λ item. item ps) (map (reaches test) items) ≡ list_any (λ v. reaches test v ps) items
 any-reached test [] ps = refl
-any-reached test (v ∷ items) ps = ap (λ b. reached test v ps || b) (any-reached test items ps)
+any-reached test (v ∷ items) ps = ap (λ b. reaches test v ps || b) (any-reached test items ps)
 
-pub reached-List : (test : List ℕ → Bool) (items : List Value) (ps : List (List ℕ)) → reached test (ListOf items) ps ≡ list_any (λ v. reached test v ps) items
+pub reached-List : (test : List ℕ → Bool) (items : List Value) (ps : List (List ℕ)) → reaches test (ListOf items) ps ≡ list_any (λ v. reaches test v ps) items
 reached-List test items ps =
-    ap (λ v. reached test v ps) (sym (rolls-List items)) ∙ ap (λ (t : Test). t ps) (fold-roll-Value Test (reached_layer test) (Value-F.List items)) ∙ any-reached test items ps
+    ap (λ v. reaches test v ps) (sym (rolls-List items)) ∙ ap (λ (t : Test). t ps) (fold-roll-Value Test (reaches_layer test) (Value-F.List items)) ∙ any-reached test items ps
 
-pub reached-Map : (test : List ℕ → Bool) (pairs : List (List ℕ × Value)) (ps : List (List ℕ)) → reached test (Map pairs) ps ≡ map_reached test (reached_pairs test pairs) ps
-reached-Map test pairs ps = ap (λ v. reached test v ps) (sym (rolls-Map pairs)) ∙ ap (λ (t : Test). t ps) (fold-roll-Value Test (reached_layer test) (Value-F.Map pairs))
+pub reached-Map : (test : List ℕ → Bool) (pairs : List (List ℕ × Value)) (ps : List (List ℕ)) → reaches test (Map pairs) ps ≡ map_reaches test (reaches_pairs test pairs) ps
+reached-Map test pairs ps = ap (λ v. reaches test v ps) (sym (rolls-Map pairs)) ∙ ap (λ (t : Test). t ps) (fold-roll-Value Test (reaches_layer test) (Value-F.Map pairs))
 
 -- a leaf on data, over the pairs of the map
 pub glob-holds : (text : List ℕ) (pairs : List (List ℕ × Value)) → glob_holds text pairs ≡ map_meets (told_pairs pairs) (parts text)
 glob-holds text pairs = meets-Map pairs (parts text)
 
-pub pattern-holds : (text : List ℕ) (pairs : List (List ℕ × Value)) → pattern_holds text pairs ≡ map_reached (starts (pattern_of (parts text))) (reached_pairs (starts (pattern_of (parts text))) pairs) (path_of (parts text))
+pub pattern-holds : (text : List ℕ) (pairs : List (List ℕ × Value)) → pattern_holds text pairs ≡ map_reaches (starts (pattern_of (parts text))) (reaches_pairs (starts (pattern_of (parts text))) pairs) (path_of (parts text))
 pattern-holds text pairs = reached-Map (starts (pattern_of (parts text))) pairs (path_of (parts text))

@@ -10,8 +10,8 @@ use Rattle.target_match.specs.declared.ready.Ready.{Ready, fold-roll-Ready}
 use Rattle.target_match.specs.declared.ready.Ready.TheVariants as R
 use Rattle.target_match.specs.declared.ready.Ready.TheOpen.{Ready-F}
 use Rattle.target_match.specs.Patterns.{starts}
-use Rattle.target_match.specs.Holds.{Data, holds_layer, holds, by_id_layer, is_by_id, glob_holds, pattern_holds, decided}
-use Rattle.target_match.specs.ById.{both, either, negated}
+use Rattle.target_match.specs.Holds.{Data, holds_layer, holds, by_id_layer, is_by_id, glob_holds, pattern_holds, decision_by_id}
+use Rattle.target_match.specs.ById.{both, either, negation}
 use Rattle.target_match.specs.Ready.{target_layer, target_of}
 use Rattle.target_match.proofs.ById as I
 
@@ -22,8 +22,8 @@ pub holds-IdGlob : (text : List ℕ) (id : List ℕ) (grains pillar : Data) → 
 holds-IdGlob text id grains pillar =
     ap (λ t. holds t id grains pillar) (of-IdGlob text ∙ sym (T.rolls-IdGlob text)) ∙ fold-roll-Target Bool (holds_layer id grains pillar) (Target-F.IdGlob text)
 
-pub decided-IdGlob : (text : List ℕ) (id : List ℕ) (grains pillar : Data) → decided (target_of (R.IdGlob text)) id grains pillar ≡ Some (glob text id)
-decided-IdGlob text id grains pillar = ap (λ t. decided t id grains pillar) (of-IdGlob text) ∙ I.decided-IdGlob text id grains pillar
+pub decided-IdGlob : (text : List ℕ) (id : List ℕ) (grains pillar : Data) → decision_by_id (target_of (R.IdGlob text)) id grains pillar ≡ Some (glob text id)
+decided-IdGlob text id grains pillar = ap (λ t. decision_by_id t id grains pillar) (of-IdGlob text) ∙ I.decided-IdGlob text id grains pillar
 
 pub of-IdPcre : (text : List ℕ) → target_of (R.IdPcre text) ≡ T.IdPcre text
 of-IdPcre text = ap target_of (sym (R.rolls-IdPcre text)) ∙ fold-roll-Ready Target target_layer (Ready-F.IdPcre text)
@@ -32,8 +32,8 @@ pub holds-IdPcre : (text : List ℕ) (id : List ℕ) (grains pillar : Data) → 
 holds-IdPcre text id grains pillar =
     ap (λ t. holds t id grains pillar) (of-IdPcre text ∙ sym (T.rolls-IdPcre text)) ∙ fold-roll-Target Bool (holds_layer id grains pillar) (Target-F.IdPcre text)
 
-pub decided-IdPcre : (text : List ℕ) (id : List ℕ) (grains pillar : Data) → decided (target_of (R.IdPcre text)) id grains pillar ≡ None
-decided-IdPcre text id grains pillar = ap (λ t. decided t id grains pillar) (of-IdPcre text) ∙ I.decided-IdPcre text id grains pillar
+pub decided-IdPcre : (text : List ℕ) (id : List ℕ) (grains pillar : Data) → decision_by_id (target_of (R.IdPcre text)) id grains pillar ≡ None
+decided-IdPcre text id grains pillar = ap (λ t. decision_by_id t id grains pillar) (of-IdPcre text) ∙ I.decided-IdPcre text id grains pillar
 
 pub of-IdList : (ids : List (List ℕ)) → target_of (R.IdList ids) ≡ T.IdList ids
 of-IdList ids = ap target_of (sym (R.rolls-IdList ids)) ∙ fold-roll-Ready Target target_layer (Ready-F.IdList ids)
@@ -42,8 +42,8 @@ pub holds-IdList : (ids : List (List ℕ)) (id : List ℕ) (grains pillar : Data
 holds-IdList ids id grains pillar =
     ap (λ t. holds t id grains pillar) (of-IdList ids ∙ sym (T.rolls-IdList ids)) ∙ fold-roll-Target Bool (holds_layer id grains pillar) (Target-F.IdList ids)
 
-pub decided-IdList : (ids : List (List ℕ)) (id : List ℕ) (grains pillar : Data) → decided (target_of (R.IdList ids)) id grains pillar ≡ Some (list_any (λ other. bytes_eq other id) ids)
-decided-IdList ids id grains pillar = ap (λ t. decided t id grains pillar) (of-IdList ids) ∙ I.decided-IdList ids id grains pillar
+pub decided-IdList : (ids : List (List ℕ)) (id : List ℕ) (grains pillar : Data) → decision_by_id (target_of (R.IdList ids)) id grains pillar ≡ Some (list_any (λ other. bytes_eq other id) ids)
+decided-IdList ids id grains pillar = ap (λ t. decision_by_id t id grains pillar) (of-IdList ids) ∙ I.decided-IdList ids id grains pillar
 
 pub of-GrainGlob : (text : List ℕ) → target_of (R.GrainGlob text) ≡ T.GrainGlob text
 of-GrainGlob text = ap target_of (sym (R.rolls-GrainGlob text)) ∙ fold-roll-Ready Target target_layer (Ready-F.GrainGlob text)
@@ -52,8 +52,8 @@ pub holds-GrainGlob : (text : List ℕ) (id : List ℕ) (grains pillar : Data) �
 holds-GrainGlob text id grains pillar =
     ap (λ t. holds t id grains pillar) (of-GrainGlob text ∙ sym (T.rolls-GrainGlob text)) ∙ fold-roll-Target Bool (holds_layer id grains pillar) (Target-F.GrainGlob text)
 
-pub decided-GrainGlob : (text : List ℕ) (id : List ℕ) (grains pillar : Data) → decided (target_of (R.GrainGlob text)) id grains pillar ≡ None
-decided-GrainGlob text id grains pillar = ap (λ t. decided t id grains pillar) (of-GrainGlob text) ∙ I.decided-GrainGlob text id grains pillar
+pub decided-GrainGlob : (text : List ℕ) (id : List ℕ) (grains pillar : Data) → decision_by_id (target_of (R.GrainGlob text)) id grains pillar ≡ None
+decided-GrainGlob text id grains pillar = ap (λ t. decision_by_id t id grains pillar) (of-GrainGlob text) ∙ I.decided-GrainGlob text id grains pillar
 
 pub of-GrainPcre : (text : List ℕ) → target_of (R.GrainPcre text) ≡ T.GrainPcre text
 of-GrainPcre text = ap target_of (sym (R.rolls-GrainPcre text)) ∙ fold-roll-Ready Target target_layer (Ready-F.GrainPcre text)
@@ -62,8 +62,8 @@ pub holds-GrainPcre : (text : List ℕ) (id : List ℕ) (grains pillar : Data) �
 holds-GrainPcre text id grains pillar =
     ap (λ t. holds t id grains pillar) (of-GrainPcre text ∙ sym (T.rolls-GrainPcre text)) ∙ fold-roll-Target Bool (holds_layer id grains pillar) (Target-F.GrainPcre text)
 
-pub decided-GrainPcre : (text : List ℕ) (id : List ℕ) (grains pillar : Data) → decided (target_of (R.GrainPcre text)) id grains pillar ≡ None
-decided-GrainPcre text id grains pillar = ap (λ t. decided t id grains pillar) (of-GrainPcre text) ∙ I.decided-GrainPcre text id grains pillar
+pub decided-GrainPcre : (text : List ℕ) (id : List ℕ) (grains pillar : Data) → decision_by_id (target_of (R.GrainPcre text)) id grains pillar ≡ None
+decided-GrainPcre text id grains pillar = ap (λ t. decision_by_id t id grains pillar) (of-GrainPcre text) ∙ I.decided-GrainPcre text id grains pillar
 
 pub of-PillarGlob : (text : List ℕ) → target_of (R.PillarGlob text) ≡ T.PillarGlob text
 of-PillarGlob text = ap target_of (sym (R.rolls-PillarGlob text)) ∙ fold-roll-Ready Target target_layer (Ready-F.PillarGlob text)
@@ -72,8 +72,8 @@ pub holds-PillarGlob : (text : List ℕ) (id : List ℕ) (grains pillar : Data) 
 holds-PillarGlob text id grains pillar =
     ap (λ t. holds t id grains pillar) (of-PillarGlob text ∙ sym (T.rolls-PillarGlob text)) ∙ fold-roll-Target Bool (holds_layer id grains pillar) (Target-F.PillarGlob text)
 
-pub decided-PillarGlob : (text : List ℕ) (id : List ℕ) (grains pillar : Data) → decided (target_of (R.PillarGlob text)) id grains pillar ≡ None
-decided-PillarGlob text id grains pillar = ap (λ t. decided t id grains pillar) (of-PillarGlob text) ∙ I.decided-PillarGlob text id grains pillar
+pub decided-PillarGlob : (text : List ℕ) (id : List ℕ) (grains pillar : Data) → decision_by_id (target_of (R.PillarGlob text)) id grains pillar ≡ None
+decided-PillarGlob text id grains pillar = ap (λ t. decision_by_id t id grains pillar) (of-PillarGlob text) ∙ I.decided-PillarGlob text id grains pillar
 
 pub of-PillarPcre : (text : List ℕ) → target_of (R.PillarPcre text) ≡ T.PillarPcre text
 of-PillarPcre text = ap target_of (sym (R.rolls-PillarPcre text)) ∙ fold-roll-Ready Target target_layer (Ready-F.PillarPcre text)
@@ -82,8 +82,8 @@ pub holds-PillarPcre : (text : List ℕ) (id : List ℕ) (grains pillar : Data) 
 holds-PillarPcre text id grains pillar =
     ap (λ t. holds t id grains pillar) (of-PillarPcre text ∙ sym (T.rolls-PillarPcre text)) ∙ fold-roll-Target Bool (holds_layer id grains pillar) (Target-F.PillarPcre text)
 
-pub decided-PillarPcre : (text : List ℕ) (id : List ℕ) (grains pillar : Data) → decided (target_of (R.PillarPcre text)) id grains pillar ≡ None
-decided-PillarPcre text id grains pillar = ap (λ t. decided t id grains pillar) (of-PillarPcre text) ∙ I.decided-PillarPcre text id grains pillar
+pub decided-PillarPcre : (text : List ℕ) (id : List ℕ) (grains pillar : Data) → decision_by_id (target_of (R.PillarPcre text)) id grains pillar ≡ None
+decided-PillarPcre text id grains pillar = ap (λ t. decision_by_id t id grains pillar) (of-PillarPcre text) ∙ I.decided-PillarPcre text id grains pillar
 
 pub of-Not : (one : Ready) → target_of (R.Not one) ≡ T.Not (target_of one)
 of-Not one = ap target_of (sym (R.rolls-Not one)) ∙ fold-roll-Ready Target target_layer (Ready-F.Not one)
@@ -92,8 +92,8 @@ pub holds-Not : (one : Ready) (id : List ℕ) (grains pillar : Data) → holds (
 holds-Not one id grains pillar =
     ap (λ t. holds t id grains pillar) (of-Not one ∙ sym (T.rolls-Not (target_of one))) ∙ fold-roll-Target Bool (holds_layer id grains pillar) (Target-F.Not (target_of one))
 
-pub decided-Not : (one : Ready) (id : List ℕ) (grains pillar : Data) → decided (target_of (R.Not one)) id grains pillar ≡ negated (decided (target_of one) id grains pillar)
-decided-Not one id grains pillar = ap (λ t. decided t id grains pillar) (of-Not one) ∙ I.decided-Not (target_of one) id grains pillar
+pub decided-Not : (one : Ready) (id : List ℕ) (grains pillar : Data) → decision_by_id (target_of (R.Not one)) id grains pillar ≡ negation (decision_by_id (target_of one) id grains pillar)
+decided-Not one id grains pillar = ap (λ t. decision_by_id t id grains pillar) (of-Not one) ∙ I.decided-Not (target_of one) id grains pillar
 
 pub of-And : (left right : Ready) → target_of (R.And left right) ≡ T.And (target_of left) (target_of right)
 of-And left right = ap target_of (sym (R.rolls-And left right)) ∙ fold-roll-Ready Target target_layer (Ready-F.And left right)
@@ -102,8 +102,8 @@ pub holds-And : (left right : Ready) (id : List ℕ) (grains pillar : Data) → 
 holds-And left right id grains pillar =
     ap (λ t. holds t id grains pillar) (of-And left right ∙ sym (T.rolls-And (target_of left) (target_of right))) ∙ fold-roll-Target Bool (holds_layer id grains pillar) (Target-F.And (target_of left) (target_of right))
 
-pub decided-And : (left right : Ready) (id : List ℕ) (grains pillar : Data) → decided (target_of (R.And left right)) id grains pillar ≡ both (decided (target_of left) id grains pillar) (decided (target_of right) id grains pillar)
-decided-And left right id grains pillar = ap (λ t. decided t id grains pillar) (of-And left right) ∙ I.decided-And (target_of left) (target_of right) id grains pillar
+pub decided-And : (left right : Ready) (id : List ℕ) (grains pillar : Data) → decision_by_id (target_of (R.And left right)) id grains pillar ≡ both (decision_by_id (target_of left) id grains pillar) (decision_by_id (target_of right) id grains pillar)
+decided-And left right id grains pillar = ap (λ t. decision_by_id t id grains pillar) (of-And left right) ∙ I.decided-And (target_of left) (target_of right) id grains pillar
 
 pub of-Or : (left right : Ready) → target_of (R.Or left right) ≡ T.Or (target_of left) (target_of right)
 of-Or left right = ap target_of (sym (R.rolls-Or left right)) ∙ fold-roll-Ready Target target_layer (Ready-F.Or left right)
@@ -112,15 +112,15 @@ pub holds-Or : (left right : Ready) (id : List ℕ) (grains pillar : Data) → h
 holds-Or left right id grains pillar =
     ap (λ t. holds t id grains pillar) (of-Or left right ∙ sym (T.rolls-Or (target_of left) (target_of right))) ∙ fold-roll-Target Bool (holds_layer id grains pillar) (Target-F.Or (target_of left) (target_of right))
 
-pub decided-Or : (left right : Ready) (id : List ℕ) (grains pillar : Data) → decided (target_of (R.Or left right)) id grains pillar ≡ either (decided (target_of left) id grains pillar) (decided (target_of right) id grains pillar)
-decided-Or left right id grains pillar = ap (λ t. decided t id grains pillar) (of-Or left right) ∙ I.decided-Or (target_of left) (target_of right) id grains pillar
+pub decided-Or : (left right : Ready) (id : List ℕ) (grains pillar : Data) → decision_by_id (target_of (R.Or left right)) id grains pillar ≡ either (decision_by_id (target_of left) id grains pillar) (decision_by_id (target_of right) id grains pillar)
+decided-Or left right id grains pillar = ap (λ t. decision_by_id t id grains pillar) (of-Or left right) ∙ I.decided-Or (target_of left) (target_of right) id grains pillar
 
 -- one of the leaves for which more than the id is needed
 abbrev NeedsMore : Ready → Type 0
 NeedsMore tree = (((x : List ℕ) × (tree ≡ R.IdPcre x)) ⊎ (((x : List ℕ) × (tree ≡ R.GrainGlob x)) ⊎ (((x : List ℕ) × (tree ≡ R.GrainPcre x)) ⊎ (((x : List ℕ) × (tree ≡ R.PillarGlob x)) ⊎ ((x : List ℕ) × (tree ≡ R.PillarPcre x))))))
 
-pub undecided : (tree : Ready) (id : List ℕ) → NeedsMore tree → (grains pillar : Data) → None ≡ decided (target_of tree) id grains pillar
-undecided tree id e = λ grains pillar. sym (elim e [ inl el ↦ ap (λ t. decided (target_of t) id grains pillar) el.1 ∙ decided-IdPcre el.0 id grains pillar | inr er ↦ elim er [ inl erl ↦ ap (λ t. decided (target_of t) id grains pillar) erl.1 ∙ decided-GrainGlob erl.0 id grains pillar | inr err ↦ elim err [ inl errl ↦ ap (λ t. decided (target_of t) id grains pillar) errl.1 ∙ decided-GrainPcre errl.0 id grains pillar | inr errr ↦ elim errr [ inl errrl ↦ ap (λ t. decided (target_of t) id grains pillar) errrl.1 ∙ decided-PillarGlob errrl.0 id grains pillar | inr errrr ↦ ap (λ t. decided (target_of t) id grains pillar) errrr.1 ∙ decided-PillarPcre errrr.0 id grains pillar ] ] ] ])
+pub undecided : (tree : Ready) (id : List ℕ) → NeedsMore tree → (grains pillar : Data) → None ≡ decision_by_id (target_of tree) id grains pillar
+undecided tree id e = λ grains pillar. sym (elim e [ inl el ↦ ap (λ t. decision_by_id (target_of t) id grains pillar) el.1 ∙ decided-IdPcre el.0 id grains pillar | inr er ↦ elim er [ inl erl ↦ ap (λ t. decision_by_id (target_of t) id grains pillar) erl.1 ∙ decided-GrainGlob erl.0 id grains pillar | inr err ↦ elim err [ inl errl ↦ ap (λ t. decision_by_id (target_of t) id grains pillar) errl.1 ∙ decided-GrainPcre errl.0 id grains pillar | inr errr ↦ elim errr [ inl errrl ↦ ap (λ t. decision_by_id (target_of t) id grains pillar) errrl.1 ∙ decided-PillarGlob errrl.0 id grains pillar | inr errrr ↦ ap (λ t. decision_by_id (target_of t) id grains pillar) errrr.1 ∙ decided-PillarPcre errrr.0 id grains pillar ] ] ] ])
 
 -- a left operand that decides, and one after which the right one does
 pub and_fails : (b x y : Bool) → b ≡ x → b ≡ false → false ≡ (x && y)

@@ -11,6 +11,6 @@ either None b = None
 either (Some a) None = None
 either (Some a) (Some b) = Some (a || b)
 
-abbrev pub negated : Option Bool → Option Bool
-negated None = None
-negated (Some a) = Some (not a)
+abbrev pub negation : Option Bool → Option Bool
+negation None = None
+negation (Some a) = Some (not a)

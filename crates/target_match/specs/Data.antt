@@ -42,27 +42,27 @@ abbrev pub told_pairs : List (List ℕ × Value) → List (List ℕ × Test)
 told_pairs pairs = map (λ p. (p.0, meets p.1)) pairs
 
 -- a scalar passes at the end of the path alone
-abbrev pub text_reached : (List ℕ → Bool) → List ℕ → Test
-text_reached test text [] = test text
-text_reached test text (p ∷ ps) = false
+abbrev pub text_reaches : (List ℕ → Bool) → List ℕ → Test
+text_reaches test text [] = test text
+text_reaches test text (p ∷ ps) = false
 
 -- at the end of the path a map passes where one of its keys does, and on the way where the child under the exact key does
-abbrev pub map_reached : (List ℕ → Bool) → List (List ℕ × Test) → Test
-map_reached test pairs [] = list_any (λ pair. test pair.0) pairs
-map_reached test pairs (p ∷ ps) = child_passes (under p pairs) ps
+abbrev pub map_reaches : (List ℕ → Bool) → List (List ℕ × Test) → Test
+map_reaches test pairs [] = list_any (λ pair. test pair.0) pairs
+map_reaches test pairs (p ∷ ps) = child_passes (under p pairs) ps
 
-abbrev pub reached_layer : (List ℕ → Bool) → Value-F Test → Test
-reached_layer test Value-F.Null ps = text_reached test (codes "None") ps
-reached_layer test (Value-F.Flag flag) ps = text_reached test (flag_text flag) ps
-reached_layer test (Value-F.Int number) ps = text_reached test (signed_decimal number) ps
-reached_layer test (Value-F.Str text) ps = text_reached test text ps
-reached_layer test (Value-F.List items) ps = list_any (λ item. item ps) items
-reached_layer test (Value-F.Map pairs) ps = map_reached test pairs ps
+abbrev pub reaches_layer : (List ℕ → Bool) → Value-F Test → Test
+reaches_layer test Value-F.Null ps = text_reaches test (codes "None") ps
+reaches_layer test (Value-F.Flag flag) ps = text_reaches test (flag_text flag) ps
+reaches_layer test (Value-F.Int number) ps = text_reaches test (signed_decimal number) ps
+reaches_layer test (Value-F.Str text) ps = text_reaches test text ps
+reaches_layer test (Value-F.List items) ps = list_any (λ item. item ps) items
+reaches_layer test (Value-F.Map pairs) ps = map_reaches test pairs ps
 
 -- what stands at the end of the path passes the test
-abbrev pub reached : (List ℕ → Bool) → Value → Test
-reached test = fold-Value Test (reached_layer test)
+abbrev pub reaches : (List ℕ → Bool) → Value → Test
+reaches test = fold-Value Test (reaches_layer test)
 
 -- Each pair with whether a path from its value on reaches such a text. No public contract cites it.
-abbrev pub reached_pairs : (List ℕ → Bool) → List (List ℕ × Value) → List (List ℕ × Test)
-reached_pairs test pairs = map (λ p. (p.0, reached test p.1)) pairs
+abbrev pub reaches_pairs : (List ℕ → Bool) → List (List ℕ × Value) → List (List ℕ × Test)
+reaches_pairs test pairs = map (λ p. (p.0, reaches test p.1)) pairs

@@ -8,7 +8,7 @@ use Rattle.target_tree.specs.declared.target.Target.{Target, fold-Target}
 use Rattle.target_tree.specs.declared.target.Target.TheOpen.{Target-F}
 use Rattle.target_match.specs.Patterns.{IsReadable, starts}
 use Rattle.target_match.specs.Paths.{parts, path_of, pattern_of}
-use Rattle.target_match.specs.Data.{meets, reached}
+use Rattle.target_match.specs.Data.{meets, reaches}
 
 -- the grains or the pillar of a minion
 abbrev pub Data : Type 0
@@ -21,7 +21,7 @@ glob_holds text fields = meets (Map fields) (parts text)
 -- a path into the data, and a pattern of what stands at its end
 abbrev pub pattern_holds : List ℕ → Data → Bool
 pattern_holds text fields =
-    reached (starts (pattern_of (parts text))) (Map fields) (path_of (parts text))
+    reaches (starts (pattern_of (parts text))) (Map fields) (path_of (parts text))
 
 abbrev pub holds_layer : List ℕ → Data → Data → Target-F Bool → Bool
 holds_layer id grains pillar (Target-F.IdGlob text) = glob text id
@@ -56,8 +56,8 @@ abbrev pub is_by_id : Target → Bool
 is_by_id = fold-Target Bool by_id_layer
 
 -- what `holds` says, where the id alone decides it
-abbrev pub decided : Target → List ℕ → Data → Data → Option Bool
-decided tree id grains pillar = if is_by_id tree then Some (holds tree id grains pillar) else None
+abbrev pub decision_by_id : Target → List ℕ → Data → Data → Option Bool
+decision_by_id tree id grains pillar = if is_by_id tree then Some (holds tree id grains pillar) else None
 
 -- of each leaf from left to right its pattern, and none of other leaves
 abbrev pub patterns_layer : Target-F (List (Option (List ℕ))) → List (Option (List ℕ))

@@ -2,7 +2,7 @@
 ghost use Rattle.std.specs.Prelude.{◌≡◌, bytes_eq};
 ghost use Rattle.std.specs.List.{list_any};
 ghost use Rattle.target_match.specs.ById as spec;
-ghost use Rattle.target_match.specs.Holds.{Data, decided};
+ghost use Rattle.target_match.specs.Holds.{Data, decision_by_id};
 ghost use Rattle.target_match.specs.Ready.{target_of};
 
 use crate::ready::Ready;
@@ -33,14 +33,14 @@ fn either(left: Option<bool>, right: Option<bool>) -> Option<bool>
 }
 
 fn not(one: Option<bool>) -> Option<bool>
-    ensures { result ≡ spec.negated one }
+    ensures { result ≡ spec.negation one }
 {
     Some(!one?)
 }
 
 /// What the id alone decides of a target; None where a leaf is neither a glob of the id nor a list of ids.
 pub fn by_id(tree: &Ready, id: &[u8]) -> Option<bool>
-    ensures { (grains pillar : Data) → result ≡ decided (target_of tree.now) id.now grains pillar }
+    ensures { (grains pillar : Data) → result ≡ decision_by_id (target_of tree.now) id.now grains pillar }
 {
     match tree {
         Ready::IdGlob(text) => Some(glob(text.as_bytes(), id)),

@@ -1,6 +1,6 @@
 //! A target that is ready for matching.
 ghost use Rattle.std.specs.Prelude.{◌≡◌, ℕ, [], IfOk, OnOk, IsOk, IsErrOf, IsTrue};
-ghost use Rattle.target_match.specs.Holds.{Data, holds, is_by_id, decided, patterns, AreReadable, IsBadAt, IsBigAt, IsToldAs};
+ghost use Rattle.target_match.specs.Holds.{Data, holds, is_by_id, decision_by_id, patterns, AreReadable, IsBadAt, IsBigAt, IsToldAs};
 ghost use Rattle.target_match.specs.Searches.{Keeps, HasSearches};
 
 use crate::BuildFault;
@@ -50,7 +50,7 @@ impl Matcher {
     /// What the id alone decides: Some exactly where every leaf is a glob of the id or a list of ids, and then what `holds`
     /// answers. It takes no memory.
     pub fn holds_id(&self, id: &MinionId) -> Option<bool>
-        ensures { (grains pillar : Data) → result ≡ decided self.now id.now grains pillar }
+        ensures { (grains pillar : Data) → result ≡ decision_by_id self.now id.now grains pillar }
     {
         by_id(&self.ready, id.as_bytes())
     }

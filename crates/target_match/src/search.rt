@@ -2,7 +2,7 @@
 ghost use Rattle.std.specs.Prelude.{◌≡◌, ◌<◌, [], ◌∷◌, Some, length, position, bytes_eq, slice_index_or, IfOk};
 ghost use Rattle.regex.specs.Strings.{regex_source};
 ghost use Rattle.target_match.specs.Patterns.{IsCompiled, starts};
-ghost use Rattle.target_match.specs.Data.{map_reached, reached_pairs};
+ghost use Rattle.target_match.specs.Data.{map_reaches, reaches_pairs};
 ghost use Rattle.target_match.specs.Searches.{Keeps};
 
 use crate::pattern::starts;
@@ -64,7 +64,7 @@ impl<'m> Search<'m> {
         fields: &[(Text, Value)],
         path: &[Text],
     ) -> Result<bool, AllocError>
-        ensures ok { IfOk result (λ b. b ≡ map_reached (starts self.old) (reached_pairs (starts self.old) fields.now) path.now) }
+        ensures ok { IfOk result (λ b. b ≡ map_reaches (starts self.old) (reaches_pairs (starts self.old) fields.now) path.now) }
         ensures kept { self.new ≡ self.old }
     {
         pairs_reached(alloc, &mut self.matcher, self.regex, fields, path)

@@ -10,7 +10,7 @@ use Rattle.target_tree.specs.declared.token.Token.TheVariants.{AndWord, OrWord, 
 use Rattle.target_tree.specs.Words.{tokens_of}
 use Rattle.target_tree.specs.Nodegroups.{text_named, is_among}
 use Rattle.salt_value.specs.Readers.{◌>>=◌}
-use Rattle.target_tree.specs.Reading.{State, ReadAnswer, operand_word, operator_word, closing, after_closing, resumed, group_answer, one_word, all_words, text_end, whole_text, group_word}
+use Rattle.target_tree.specs.Reading.{State, ReadAnswer, operand_word, operator_word, closing, after_closing, after_group, group_answer, one_word, all_words, text_end, whole_text, group_word}
 use Rattle.target_tree.specs.declared.reader.Part.{Part}
 use Rattle.target_tree.specs.declared.reader.Reader.{Reader as Machine}
 use Rattle.target_tree.specs.Machine.{counts_of, Step, level_of, machine_operand, machine_operator, machine_closing, machine_by, machine_closed, machine_word, machine_all, machine_end, machine_end_by, machine_text, machine_begun, machine_found, machine_resumed, machine_group, state_of, is_due}
@@ -92,7 +92,7 @@ erase-found : (group : List (List ℕ) → List ℕ → Machine → Step) (reads
 erase-found group reads same names name m None = refl
 erase-found group reads same names name m (Some text) =
     erased-cond state_of (is_among names name) (Circle m.at) _ _
-    (erased-bind counts_of state_of (machine_text (group (name ∷ names)) text (machine_begun m.part.nest.deep (m.at + 1) m.patterns)) (machine_resumed m) _ (resumed (state_of m))
+    (erased-bind counts_of state_of (machine_text (group (name ∷ names)) text (machine_begun m.part.nest.deep (m.at + 1) m.patterns)) (machine_resumed m) _ (after_group (state_of m))
     (erase-text (group (name ∷ names)) (reads (name ∷ names)) (same (name ∷ names)) text (machine_begun m.part.nest.deep (m.at + 1) m.patterns))
     (λ r. refl))
 

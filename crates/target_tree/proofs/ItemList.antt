@@ -8,7 +8,7 @@ use Rattle.std.proofs.lemmas.List.Folds.{list_all-append}
 use Rattle.salt_value.specs.Id.{IsId, is_id_byte}
 use Rattle.target_tree.specs.declared.target.Target.TheVariants.{IdList}
 use Rattle.target_tree.specs.declared.token.Token.TheVariants.{Leaf, NoLeaf}
-use Rattle.target_tree.specs.Words.{id_list, is_id, list_items, trimmed}
+use Rattle.target_tree.specs.Words.{id_list, is_id, list_items, trimmed_item}
 use Rattle.target_tree.proofs.Cuts.{uncut}
 
 both-true : (a b : Bool) → (a && b) ≡ true → (a ≡ true) × (b ≡ true)
@@ -39,15 +39,15 @@ abbrev pub comma : ℕ → Bool
 comma b = nat_eq b 44
 
 -- the first item, and the others
-pub items-more : (text item rest : List ℕ) → item ≡ before_first comma text → rest ≡ after_first comma text → position_or_len comma text < length text → list_items text ≡ trimmed item ∷ list_items rest
+pub items-more : (text item rest : List ℕ) → item ≡ before_first comma text → rest ≡ after_first comma text → position_or_len comma text < length text → list_items text ≡ trimmed_item item ∷ list_items rest
 unfolding list_items
 items-more text item rest e f h =
     let cut : slice_split comma text ≡ item ∷ slice_split comma rest = slice_split_first comma text 0 h ∙ cc in
-    ap (map trimmed) cut
+    ap (map trimmed_item) cut
 
-pub items-last : (text : List ℕ) → ((i : ℕ) → i < length text → get_or text i 0 ≢ 44) → list_items text ≡ trimmed text ∷ []
+pub items-last : (text : List ℕ) → ((i : ℕ) → i < length text → get_or text i 0 ≢ 44) → list_items text ≡ trimmed_item text ∷ []
 unfolding list_items
-items-last text h = ap (map trimmed) (uncut 44 text h)
+items-last text h = ap (map trimmed_item) (uncut 44 text h)
 
 false-and : (a b : Bool) → b ≡ false → (a && b) ≡ false
 false-and true b e = e
@@ -74,19 +74,19 @@ items-good text ids e good =
 
 -- the items after ids that were read
 pub next-item : (ids : List (List ℕ)) (text item rest : List ℕ) → item ≡ before_first comma text → rest ≡ after_first comma text → position_or_len comma text < length text
-    → ids ++ list_items text ≡ ids ++ trimmed item ∷ list_items rest
+    → ids ++ list_items text ≡ ids ++ trimmed_item item ∷ list_items rest
 next-item ids text item rest e f h = ap (λ (x : List (List ℕ)). ids ++ x) (items-more text item rest e f h)
 
-pub last-item : (ids : List (List ℕ)) (text : List ℕ) → ((i : ℕ) → i < length text → get_or text i 0 ≢ 44) → ids ++ list_items text ≡ ids ++ trimmed text ∷ []
+pub last-item : (ids : List (List ℕ)) (text : List ℕ) → ((i : ℕ) → i < length text → get_or text i 0 ≢ 44) → ids ++ list_items text ≡ ids ++ trimmed_item text ∷ []
 last-item ids text h = ap (λ (x : List (List ℕ)). ids ++ x) (items-last text h)
 
 pub one-more : (ids : List (List ℕ)) (text item rest id : List ℕ) (more : List (List ℕ)) → item ≡ before_first comma text → rest ≡ after_first comma text → position_or_len comma text < length text
-    → id ≡ trimmed item → more ≡ ids ++ id ∷ [] → ids ++ list_items text ≡ more ++ list_items rest
+    → id ≡ trimmed_item item → more ≡ ids ++ id ∷ [] → ids ++ list_items text ≡ more ++ list_items rest
 one-more ids text item rest id more e f h same pushed =
     next-item ids text item rest e f h
     ∙ (ap (λ (x : List ℕ). ids ++ x ∷ list_items rest) (sym same) ∙ (sym (append_assoc ids (id ∷ []) (list_items rest)) ∙ ap (λ (x : List (List ℕ)). x ++ list_items rest) (sym pushed)))
 
-pub last-more : (ids : List (List ℕ)) (text id : List ℕ) (more : List (List ℕ)) → ((i : ℕ) → i < length text → get_or text i 0 ≢ 44) → id ≡ trimmed text → more ≡ ids ++ id ∷ []
+pub last-more : (ids : List (List ℕ)) (text id : List ℕ) (more : List (List ℕ)) → ((i : ℕ) → i < length text → get_or text i 0 ≢ 44) → id ≡ trimmed_item text → more ≡ ids ++ id ∷ []
     → ids ++ list_items text ≡ more
 last-more ids text id more h same pushed = last-item ids text h ∙ (ap (λ (x : List ℕ). ids ++ x ∷ []) (sym same) ∙ sym pushed)
 

@@ -5,7 +5,7 @@ use Rattle.std.specs.List.{list_any}
 use Rattle.std.proofs.lemmas.Bool.Decides.{nat_tests}
 use Rattle.target_tree.specs.declared.target.Target.TheVariants.{IdGlob}
 use Rattle.target_tree.specs.declared.token.Token.TheVariants.{Leaf, NoLeaf}
-use Rattle.target_tree.specs.Words.{is_lettered, is_kind_letter, is_not_empty, is_paren, lettered, operand_token}
+use Rattle.target_tree.specs.Words.{is_lettered, is_kind_letter, is_not_empty, is_paren, letter_leaf, operand_token}
 use Rattle.target_tree.specs.Parted.{IsParted}
 
 and-false : (x y : Bool) → y ≡ false → (x && y) ≡ false
@@ -56,22 +56,22 @@ parted-so s (a ∷ b ∷ front) text letter e n g low high = absurd (omega arith
 
 pub operand-plain : (s : List ℕ) → is_lettered s ≡ false → operand_token s ≡ (if list_any is_paren s then NoLeaf else Leaf (IdGlob s))
 unfolding operand_token
-operand-plain s h = ap (λ (b : Bool). if b then (if is_not_empty (drop 2 s) || not (is_kind_letter (slice_index s 0)) then lettered (slice_index s 0) (drop 2 s) else NoLeaf) else if list_any is_paren s then NoLeaf else Leaf (IdGlob s)) h
+operand-plain s h = ap (λ (b : Bool). if b then (if is_not_empty (drop 2 s) || not (is_kind_letter (slice_index s 0)) then letter_leaf (slice_index s 0) (drop 2 s) else NoLeaf) else if list_any is_paren s then NoLeaf else Leaf (IdGlob s)) h
 
-pub operand-lettered : (s : List ℕ) (letter : ℕ) (text : List ℕ) → IsParted s letter text → operand_token s ≡ (if is_not_empty text || not (is_kind_letter letter) then lettered letter text else NoLeaf)
+pub operand-lettered : (s : List ℕ) (letter : ℕ) (text : List ℕ) → IsParted s letter text → operand_token s ≡ (if is_not_empty text || not (is_kind_letter letter) then letter_leaf letter text else NoLeaf)
 unfolding operand_token
 operand-lettered s letter text h =
-    ap (λ (b : Bool). if b then (if is_not_empty (drop 2 s) || not (is_kind_letter (slice_index s 0)) then lettered (slice_index s 0) (drop 2 s) else NoLeaf) else if list_any is_paren s then NoLeaf else Leaf (IdGlob s)) h.is
-    ∙ ap₂ (λ (c : ℕ) (t : List ℕ). if is_not_empty t || not (is_kind_letter c) then lettered c t else NoLeaf) h.letter_is h.text_is
+    ap (λ (b : Bool). if b then (if is_not_empty (drop 2 s) || not (is_kind_letter (slice_index s 0)) then letter_leaf (slice_index s 0) (drop 2 s) else NoLeaf) else if list_any is_paren s then NoLeaf else Leaf (IdGlob s)) h.is
+    ∙ ap₂ (λ (c : ℕ) (t : List ℕ). if is_not_empty t || not (is_kind_letter c) then letter_leaf c t else NoLeaf) h.letter_is h.text_is
 
-pub some-text : (s : List ℕ) (letter : ℕ) (text : List ℕ) → IsParted s letter text → nat_eq (length text) 0 ≡ false → lettered letter text ≡ operand_token s
+pub some-text : (s : List ℕ) (letter : ℕ) (text : List ℕ) → IsParted s letter text → nat_eq (length text) 0 ≡ false → letter_leaf letter text ≡ operand_token s
 some-text s letter [] h some = absurd (grind (arith, nat_tests))
 some-text s letter (b ∷ text) h some = sym (operand-lettered s letter (b ∷ text) h)
 
 pub bare-letter : (s : List ℕ) (letter : ℕ) (text : List ℕ) → IsParted s letter text → nat_eq (length text) 0 ≡ true → is_kind_letter letter ≡ true → NoLeaf ≡ operand_token s
-bare-letter s letter [] h none is = sym (operand-lettered s letter [] h ∙ ap (λ (b : Bool). if not b then lettered letter [] else NoLeaf) is)
+bare-letter s letter [] h none is = sym (operand-lettered s letter [] h ∙ ap (λ (b : Bool). if not b then letter_leaf letter [] else NoLeaf) is)
 bare-letter s letter (b ∷ text) h none is = absurd (grind (arith, nat_tests))
 
-pub bare-other : (s : List ℕ) (letter : ℕ) (text : List ℕ) → IsParted s letter text → nat_eq (length text) 0 ≡ true → is_kind_letter letter ≡ false → lettered letter text ≡ operand_token s
-bare-other s letter [] h none is = sym (operand-lettered s letter [] h ∙ ap (λ (b : Bool). if not b then lettered letter [] else NoLeaf) is)
+pub bare-other : (s : List ℕ) (letter : ℕ) (text : List ℕ) → IsParted s letter text → nat_eq (length text) 0 ≡ true → is_kind_letter letter ≡ false → letter_leaf letter text ≡ operand_token s
+bare-other s letter [] h none is = sym (operand-lettered s letter [] h ∙ ap (λ (b : Bool). if not b then letter_leaf letter [] else NoLeaf) is)
 bare-other s letter (b ∷ text) h none is = absurd (grind (arith, nat_tests))

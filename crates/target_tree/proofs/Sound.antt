@@ -15,7 +15,7 @@ use Rattle.salt_value.specs.Readers.{◌>>=◌}
 use Rattle.target_tree.specs.declared.reader.Part.{Part}
 use Rattle.target_tree.specs.declared.reader.Reader.{Reader as Machine}
 use Rattle.target_tree.specs.declared.reader.Ended.{Ended}
-use Rattle.target_tree.specs.Machine.{Step, fresh, deeper, bare, joined_and, joined_or, negations, mended, machine_operand, machine_operator, machine_closing, machine_closed, machine_by, machine_word, machine_all, machine_end_by, machine_end, machine_text, machine_begun, machine_found, machine_resumed, machine_group}
+use Rattle.target_tree.specs.Machine.{Step, fresh, deeper, bare, joined_and, joined_or, negations, with_operand, machine_operand, machine_operator, machine_closing, machine_closed, machine_by, machine_word, machine_all, machine_end_by, machine_end, machine_text, machine_begun, machine_found, machine_resumed, machine_group}
 
 -- that an answer is there, taken apart
 pub unguarded : {A : Type 0} (b : Bool) (e : TargetFault) (r : Result A TargetFault) (x : A) → (if b then Err e else r) ≡ Ok x → r ≡ Ok x
@@ -128,7 +128,7 @@ module _ (groups : List Group) (names : List (List ℕ)) where
     pub tree : Target
     pub at : ℕ
     pub patterns : ℕ
-    pub ends : mended tree (record m { at = at; patterns = patterns }) ≡ new
+    pub ends : with_operand tree (record m { at = at; patterns = patterns }) ≡ new
     pub stands : Stands groups names operand (Nodegroup name ∷ []) tree
 
   waits-bare : (around : ℕ) → Waits (bare around) []
@@ -187,7 +187,7 @@ module _ (groups : List Group) (names : List (List ℕ)) where
   }
 
   mended-read : (m : Machine) (all outer inner u : List Token) (t : Target) (at patterns : ℕ) → all ≡ outer ++ inner → Around m.parts outer → Waits m.part inner → Stands groups names operand u t
-      → Read (mended t (record m { at = at; patterns = patterns })) (all ++ u)
+      → Read (with_operand t (record m { at = at; patterns = patterns })) (all ++ u)
   mended-read m all outer inner u t at patterns split around h stands = record {
     outer = outer;
     inner = inner ++ u;
@@ -234,7 +234,7 @@ module _ (groups : List Group) (names : List (List ℕ)) where
       let regrouped : all ++ CloseWord ∷ [] ≡ (before ++ within) ++ words =
       ap (λ (x : List Token). x ++ CloseWord ∷ []) (split ∙ ap (λ (x : List Token). x ++ inner) place) ∙ simp append_assoc in
       subst (λ (x : Machine). Read x (all ++ CloseWord ∷ [])) (ok_is _ _ e)
-      (subst (λ (x : List Token). Read (mended (joined_or m.part.left_or t) (record m { part = part; parts = parts; at = m.at + 1 })) x) (sym regrouped)
+      (subst (λ (x : List Token). Read (with_operand (joined_or m.part.left_or t) (record m { part = part; parts = parts; at = m.at + 1 })) x) (sym regrouped)
       (mended-read (record m { part = part; parts = parts }) (before ++ within) before within words (joined_or m.part.left_or t) (m.at + 1) m.patterns refl rest waits
       (in_parens (whole-stands m.part t inner h))))
 

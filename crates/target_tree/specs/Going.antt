@@ -39,12 +39,12 @@ entered_by names name at None = Err (UnknownGroup at)
 entered_by names name at (Some text) = if is_among names name then Err (Circle at) else within text
 
 -- the same by its name
-abbrev pub entered : List Group → List (List ℕ) → List ℕ → ℕ → Result (List ℕ) TargetFault
-entered groups names name at = entered_by names name at (text_named groups name)
+abbrev pub group_entry : List Group → List (List ℕ) → List ℕ → ℕ → Result (List ℕ) TargetFault
+group_entry groups names name at = entered_by names name at (text_named groups name)
 
 -- the text that a nodegroup's word begins, by whether an operand is due
 abbrev pub opened_by : List Group → List (List ℕ) → List ℕ → ℕ → Option Target → Result (List ℕ) TargetFault
-opened_by groups names name at None = entered groups names name at
+opened_by groups names name at None = group_entry groups names name at
 opened_by groups names name at (Some t) = Err (Word at)
 
 -- the same where words may still come

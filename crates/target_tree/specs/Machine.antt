@@ -48,8 +48,8 @@ negations zero t = t
 negations (suc n) t = negations n (Not t)
 
 -- after an operand: it stands under each `not` before it, and is joined to the left by `and`
-abbrev pub mended : Target → Machine → Machine
-mended t m = record {
+abbrev pub with_operand : Target → Machine → Machine
+with_operand t m = record {
   last = Some (joined_and m.part.left_and (negations (m.part.nest.deep - m.part.nest.around) t));
   part = record { left_or = m.part.left_or; left_and = None; nest = fresh m.part.nest.around };
   parts = m.parts;
@@ -58,8 +58,8 @@ mended t m = record {
 }
 
 -- a word more was read
-abbrev pub counted : Machine → Machine
-counted m = record m { at = m.at + 1 }
+abbrev pub with_word : Machine → Machine
+with_word m = record m { at = m.at + 1 }
 
 -- a parenthesis or a text at its start
 abbrev pub bare : ℕ → Part
@@ -68,12 +68,12 @@ bare around = record { left_or = None; left_and = None; nest = fresh around }
 -- a word where an operand is due; `group` reads a nodegroup's words
 abbrev pub machine_operand : (List ℕ → Machine → Step) → Token → Machine → Step
 machine_operand group NotWord m =
-    if nat_le most_open m.part.nest.deep then Err TooDeep else Ok (counted (record m { part = record { left_or = m.part.left_or; left_and = m.part.left_and; nest = deeper m.part.nest } }))
+    if nat_le most_open m.part.nest.deep then Err TooDeep else Ok (with_word (record m { part = record { left_or = m.part.left_or; left_and = m.part.left_and; nest = deeper m.part.nest } }))
 machine_operand group OpenWord m =
-    if nat_le most_open m.part.nest.deep then Err TooDeep else Ok (counted (record m { part = bare (m.part.nest.deep + 1); parts = m.part ∷ m.parts }))
-machine_operand group (Leaf t) m = Ok (mended t (counted m))
+    if nat_le most_open m.part.nest.deep then Err TooDeep else Ok (with_word (record m { part = bare (m.part.nest.deep + 1); parts = m.part ∷ m.parts }))
+machine_operand group (Leaf t) m = Ok (with_operand t (with_word m))
 machine_operand group (Pattern t) m =
-    if nat_le most_patterns m.patterns then Err TooManyPatterns else Ok (mended t (counted (record m { patterns = m.patterns + 1 })))
+    if nat_le most_patterns m.patterns then Err TooManyPatterns else Ok (with_operand t (with_word (record m { patterns = m.patterns + 1 })))
 machine_operand group (Nodegroup name) m = group name m
 machine_operand group NoLetter m = Err (BadLetter m.at)
 machine_operand group AndWord m = Err (Word m.at)
@@ -84,12 +84,12 @@ machine_operand group NoLeaf m = Err (Word m.at)
 -- a `)`: the tree of the innermost parenthesis is an operand of the one around it
 abbrev pub machine_closing : Target → List Part → Machine → Step
 machine_closing t [] m = Err (Word m.at)
-machine_closing t (part ∷ parts) m = Ok (mended (joined_or m.part.left_or t) (counted (record m { part = part; parts = parts })))
+machine_closing t (part ∷ parts) m = Ok (with_operand (joined_or m.part.left_or t) (with_word (record m { part = part; parts = parts })))
 
 -- a word where no operand is due, after the operands that `and` joined
 abbrev pub machine_operator : Target → Token → Machine → Step
-machine_operator t AndWord m = Ok (counted (record m { last = None; part = record { left_or = m.part.left_or; left_and = Some t; nest = m.part.nest } }))
-machine_operator t OrWord m = Ok (counted (record m { last = None; part = record { left_or = Some (joined_or m.part.left_or t); left_and = None; nest = m.part.nest } }))
+machine_operator t AndWord m = Ok (with_word (record m { last = None; part = record { left_or = m.part.left_or; left_and = Some t; nest = m.part.nest } }))
+machine_operator t OrWord m = Ok (with_word (record m { last = None; part = record { left_or = Some (joined_or m.part.left_or t); left_and = None; nest = m.part.nest } }))
 machine_operator t CloseWord m = machine_closing t m.parts m
 machine_operator t NotWord m = Err (Word m.at)
 machine_operator t OpenWord m = Err (Word m.at)
@@ -140,7 +140,7 @@ machine_begun around at patterns = record { last = None; part = bare around; par
 
 -- after a nodegroup's text: its tree is an operand
 abbrev pub machine_resumed : Machine → Ended → Step
-machine_resumed m e = Ok (mended e.tree (record m { at = e.at; patterns = e.patterns }))
+machine_resumed m e = Ok (with_operand e.tree (record m { at = e.at; patterns = e.patterns }))
 
 -- a nodegroup's word, with its text if there is one; `names` are being expanded
 abbrev pub machine_found : (List (List ℕ) → List ℕ → Machine → Step) → List (List ℕ) → List ℕ → Machine → Option (List ℕ) → Step

@@ -53,8 +53,8 @@ abbrev pub deeper : Nest → Nest
 deeper n = record n { deep = n.deep + 1 }
 
 -- an operand ended: each `not` before it is taken off
-abbrev pub ended : State → State
-ended s = record s { due = false; nest = fresh s.nest.around }
+abbrev pub after_operand : State → State
+after_operand s = record s { due = false; nest = fresh s.nest.around }
 
 -- a word where an operand is due; `group` reads a nodegroup's words
 abbrev pub operand_word : (List ℕ → State → ReadAnswer) → Token → State → ReadAnswer
@@ -62,9 +62,9 @@ operand_word group NotWord s =
     if nat_le most_open s.nest.deep then Err TooDeep else Ok (read_on (record s { nest = deeper s.nest }))
 operand_word group OpenWord s =
     if nat_le most_open s.nest.deep then Err TooDeep else Ok (read_on (record s { nest = fresh (s.nest.deep + 1); nests = s.nest ∷ s.nests }))
-operand_word group (Leaf t) s = Ok (ended (read_on s))
+operand_word group (Leaf t) s = Ok (after_operand (read_on s))
 operand_word group (Pattern t) s =
-    if nat_le most_patterns s.patterns then Err TooManyPatterns else Ok (ended (read_on (record s { patterns = s.patterns + 1 })))
+    if nat_le most_patterns s.patterns then Err TooManyPatterns else Ok (after_operand (read_on (record s { patterns = s.patterns + 1 })))
 operand_word group (Nodegroup name) s = group name s
 operand_word group NoLetter s = Err (BadLetter s.at)
 operand_word group AndWord s = Err (Word s.at)
@@ -75,7 +75,7 @@ operand_word group NoLeaf s = Err (Word s.at)
 -- a `)`: it closes the innermost parenthesis of this text
 abbrev pub closing : List Nest → State → ReadAnswer
 closing [] s = Err (Word s.at)
-closing (nest ∷ nests) s = Ok (ended (read_on (record s { nest = nest; nests = nests })))
+closing (nest ∷ nests) s = Ok (after_operand (read_on (record s { nest = nest; nests = nests })))
 
 -- a word where no operand is due
 abbrev pub operator_word : Token → State → ReadAnswer
@@ -122,15 +122,15 @@ begun around at patterns =
     record { due = true; nest = fresh around; nests = []; at = at; patterns = patterns }
 
 -- after a nodegroup's text: its words were read, and the operand ends
-abbrev pub resumed : State → Counts → ReadAnswer
-resumed s inner = Ok (ended (record s { at = inner.at; patterns = inner.patterns }))
+abbrev pub after_group : State → Counts → ReadAnswer
+after_group s inner = Ok (after_operand (record s { at = inner.at; patterns = inner.patterns }))
 
 -- A nodegroup's word, with its text if there is one; `names` are being expanded, and `group` reads a word in its text.
 abbrev pub group_answer : (List (List ℕ) → List ℕ → State → ReadAnswer) → List (List ℕ) → List ℕ → State → Option (List ℕ) → ReadAnswer
 group_answer group names name s None = Err (UnknownGroup s.at)
 group_answer group names name s (Some text) =
     if is_among names name then Err (Circle s.at)
-    else whole_text (group (name ∷ names)) text (begun s.nest.deep (s.at + 1) s.patterns) >>= resumed s
+    else whole_text (group (name ∷ names)) text (begun s.nest.deep (s.at + 1) s.patterns) >>= after_group s
 
 -- The words of a nodegroup's text are read where its word stands.
 -- Each text within a text follows a word, so no more than `most_texts` lie in one another.

@@ -21,8 +21,8 @@ without_spaces [] = []
 without_spaces (b ∷ bytes) = if b == 32 then without_spaces bytes else b ∷ bytes
 
 -- without the spaces at both ends
-abbrev pub trimmed : List ℕ → List ℕ
-trimmed item = reverse (without_spaces (reverse (without_spaces item)))
+abbrev pub trimmed_item : List ℕ → List ℕ
+trimmed_item item = reverse (without_spaces (reverse (without_spaces item)))
 
 -- 1 to 64 bytes that ids have
 abbrev pub is_id : List ℕ → Bool
@@ -30,15 +30,15 @@ is_id bytes = nat_le 1 (length bytes) && nat_le (length bytes) 64 && list_all is
 
 -- the items of a list, between commas
 unfoldable pub list_items : List ℕ → List (List ℕ)
-list_items text = map trimmed (slice_split (λ b. b == 44) text)
+list_items text = map trimmed_item (slice_split (λ b. b == 44) text)
 
 -- a list of ids, and no leaf where an item is no id
 unfoldable pub id_list : List ℕ → Token
 id_list text = if list_all is_id (list_items text) then Leaf (IdList (list_items text)) else NoLeaf
 
 -- the leaf of a letter, by the text after its @
-unfoldable pub lettered : ℕ → List ℕ → Token
-lettered letter text =
+unfoldable pub letter_leaf : ℕ → List ℕ → Token
+letter_leaf letter text =
     -- G
     if letter == 71 then Leaf (GrainGlob text)
     -- E
@@ -72,7 +72,7 @@ is_paren b = b == 40 || b == 41
 unfoldable pub operand_token : List ℕ → Token
 operand_token word =
     if is_lettered word then
-    (if is_not_empty (drop 2 word) || not (is_kind_letter (slice_index word 0)) then lettered (slice_index word 0) (drop 2 word) else NoLeaf)
+    (if is_not_empty (drop 2 word) || not (is_kind_letter (slice_index word 0)) then letter_leaf (slice_index word 0) (drop 2 word) else NoLeaf)
     else if list_any is_paren word then NoLeaf
     else Leaf (IdGlob word)
 

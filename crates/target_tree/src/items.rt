@@ -1,6 +1,6 @@
 //! Lists of ids.
 ghost use Rattle.std.specs.Prelude.{◌≡◌, true, false, reverse, IfOk, MatchOption};
-ghost use Rattle.target_tree.specs.Words.{id_list, is_id, trimmed, without_spaces};
+ghost use Rattle.target_tree.specs.Words.{id_list, is_id, trimmed_item, without_spaces};
 
 use crate::Target;
 use crate::token::{Token, leaf};
@@ -30,14 +30,14 @@ fn without_end(item: &[u8]) -> &[u8]
 
 /// Without the spaces at both ends.
 fn without_ends(item: &[u8]) -> &[u8]
-    ensures { result.now ≡ trimmed item.now }
+    ensures { result.now ≡ trimmed_item item.now }
 {
     without_end(without_front(item))
 }
 
 /// The id that an item of a list is.
 fn id_of(item: &str) -> Option<MinionId>
-    ensures { MatchOption result (is_id (trimmed item.now) ≡ false) (λ id. (id ≡ trimmed item.now) × (is_id id ≡ true)) }
+    ensures { MatchOption result (is_id (trimmed_item item.now) ≡ false) (λ id. (id ≡ trimmed_item item.now) × (is_id id ≡ true)) }
 {
     match MinionId::from_bytes(without_ends(item.as_bytes())) {
         Ok(id) => Some(id),

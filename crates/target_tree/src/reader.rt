@@ -1,7 +1,7 @@
 //! The reading of one text, word by word: what stands before its last operand, in each parenthesis that is open.
 ghost use Rattle.std.specs.Prelude.{◌≡◌, ◌-◌, ◌<◌, Ok, IfOk};
 ghost use Rattle.target_tree.specs.Limits.{most_words};
-ghost use Rattle.target_tree.specs.Machine.{GivesTree, fresh, mended, joined_and, joined_or, negations, machine_begun, machine_operand, machine_operator, machine_closing, machine_word, machine_end, machine_resumed, no_group};
+ghost use Rattle.target_tree.specs.Machine.{GivesTree, fresh, with_operand, joined_and, joined_or, negations, machine_begun, machine_operand, machine_operator, machine_closing, machine_word, machine_end, machine_resumed, no_group};
 
 use crate::limits::{MOST_OPEN, MOST_PATTERNS, MOST_WORDS};
 use crate::stack::Stack;
@@ -118,7 +118,7 @@ impl Reader {
 
     /// After an operand.
     fn mend(self, alloc: Global, tree: Boxed<Target>) -> Result<Reader, AllocError>
-        ensures { IfOk result (λ r. r ≡ mended tree self) }
+        ensures { IfOk result (λ r. r ≡ with_operand tree self) }
     {
         let mut reader = self;
         let nest = reader.part.nest;

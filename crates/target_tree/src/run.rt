@@ -4,7 +4,7 @@ ghost use Rattle.target_tree.specs.Limits.{most_words, most_texts};
 ghost use Rattle.target_tree.specs.Words.{tokens_of, token};
 ghost use Rattle.target_tree.specs.Nodegroups.{is_among};
 ghost use Rattle.target_tree.specs.Machine.{GivesTree, machine_begun};
-ghost use Rattle.target_tree.specs.Going.{GivesBy, ReadsOn, going, entered, group_text, within, names_of};
+ghost use Rattle.target_tree.specs.Going.{GivesBy, ReadsOn, going, group_entry, group_text, within, names_of};
 
 use crate::limits::{MOST_TEXT_BYTES, MOST_WORDS};
 use crate::reader::{Ended, Reader};
@@ -55,7 +55,7 @@ fn enter<'a>(
     name: &Text,
     at: u32,
 ) -> Result<&'a str, TargetFault>
-    ensures { GivesBy (λ x. x.now) result (entered groups.entry.now (names_of outers.now) name.now at) }
+    ensures { GivesBy (λ x. x.now) result (group_entry groups.entry.now (names_of outers.now) name.now at) }
 {
     let Some(text) = groups.find(name.as_str()) else {
         return Err(TargetFault::UnknownGroup { at });

@@ -1,6 +1,6 @@
 //! What a word is.
 ghost use Rattle.std.specs.Prelude.{◌≡◌, false, IfOk, MatchOption};
-ghost use Rattle.target_tree.specs.Words.{token, lettered, operand_token, is_paren, is_kind_letter, is_lettered};
+ghost use Rattle.target_tree.specs.Words.{token, letter_leaf, operand_token, is_paren, is_kind_letter, is_lettered};
 ghost use Rattle.std.specs.List.{list_any};
 ghost use Rattle.target_tree.specs.Parted.{IsParted};
 
@@ -48,9 +48,9 @@ pub fn pattern(alloc: Global, tree: Target) -> Result<Token, AllocError>
 }
 
 /// The leaf of a letter, by the text after its `@`.
-#[tactic(auto, unfolding(crate::specs::Words::lettered))]
+#[tactic(auto, unfolding(crate::specs::Words::letter_leaf))]
 fn lettered_of(alloc: Global, letter: u8, text: &str) -> Result<Token, AllocError>
-    ensures { IfOk result (λ t. t ≡ lettered letter text.now) }
+    ensures { IfOk result (λ t. t ≡ letter_leaf letter text.now) }
 {
     if letter == b'G' {
         leaf(alloc, Target::GrainGlob(to_text(alloc, text)?))

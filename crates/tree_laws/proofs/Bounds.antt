@@ -15,11 +15,11 @@ use Rattle.salt_wire.specs.declared.deed.Deed.TheVariants.{Publish, Up}
 use Rattle.node_core.specs.declared.faults.Stray.{Stray}
 use Rattle.node_core.specs.declared.faults.Stray.TheVariants.{NotNeighbour, WrongWay}
 use Rattle.node_core.specs.Records.{jobs, log}
-use Rattle.node_core.specs.Node.{NodeState, Taken, with_record, recorded, after_pub, accepted, is_neighbour, may_take, stray_of, unless_stray, taken, job_of}
+use Rattle.node_core.specs.Node.{NodeState, MessageResult, with_record, with_next_record, after_pub, after_message, is_neighbour, may_take, stray_of, unless_stray, message_result, job_of}
 use Rattle.fleet_turns.specs.declared.turn.Turn.{Turn}
 use Rattle.fleet_turns.specs.declared.turn.Turn.TheVariants as kind
 use Rattle.fleet_turns.specs.Turns.{IsTurn}
-use Rattle.tree_world.specs.Network.{Network, node_at, start, top_jobs, received, delivered, after, after_all}
+use Rattle.tree_world.specs.Network.{Network, node_at, start, top_jobs, after_receipt, after_delivery, after, after_all}
 use Rattle.tree_laws.specs.Invariant.{Holds}
 use Rattle.tree_laws.proofs.Records.{jobs_push}
 use Rattle.tree_laws.proofs.Calls.{at_same, at_other}
@@ -27,28 +27,28 @@ use Rattle.tree_laws.proofs.Turns.{published_either, by_receiver, after_step, fi
 
 -- ---- no message changes the jobs of the top, which has no parent
 
-recorded_same : (t : Bool) (id : List ℕ) (entry : Entry) (node : NodeState) → jobs (recorded t (Up id entry) node).records ≡ jobs node.records
+recorded_same : (t : Bool) (id : List ℕ) (entry : Entry) (node : NodeState) → jobs (with_next_record t (Up id entry) node).records ≡ jobs node.records
 recorded_same true id entry node = jobs_push node.records (Up id entry) ∙ append-nil (jobs node.records)
 recorded_same false id entry node = refl
 
-by_stray : (o : Option Stray) (node : NodeState) (done : Taken) → jobs done.node.records ≡ jobs node.records → jobs (unless_stray o node done).node.records ≡ jobs node.records
+by_stray : (o : Option Stray) (node : NodeState) (done : MessageResult) → jobs done.node.records ≡ jobs node.records → jobs (unless_stray o node done).node.records ≡ jobs node.records
 by_stray None node done e = e
 by_stray (Some cause) node done e = refl
 
-job_stray : (a b : Bool) (node : NodeState) (done : Taken) → jobs (unless_stray (first_cause ((a, NotNeighbour) ∷ (false && b, WrongWay) ∷ [])) node done).node.records ≡ jobs node.records
+job_stray : (a b : Bool) (node : NodeState) (done : MessageResult) → jobs (unless_stray (first_cause ((a, NotNeighbour) ∷ (false && b, WrongWay) ∷ [])) node done).node.records ≡ jobs node.records
 job_stray true b node done = refl
 job_stray false b node done = refl
 
-top_taken : (t : Tree) (from : ℕ) (message : Message) (node : NodeState) → jobs (taken t 0 from message node).node.records ≡ jobs node.records
+top_taken : (t : Tree) (from : ℕ) (message : Message) (node : NodeState) → jobs (message_result t 0 from message node).node.records ≡ jobs node.records
 top_taken t from (msg.Pub seq job) node = job_stray (is_neighbour t 0 from) (may_take seq job node) node (after_pub t 0 seq job node)
-top_taken t from (msg.Have n) node = by_stray (stray_of t 0 from (msg.Have n) node) node (accepted t 0 from (msg.Have n) node) refl
+top_taken t from (msg.Have n) node = by_stray (stray_of t 0 from (msg.Have n) node) node (after_message t 0 from (msg.Have n) node) refl
 top_taken t from (msg.Up id n entry) node =
-    by_stray (stray_of t 0 from (msg.Up id n entry) node) node (accepted t 0 from (msg.Up id n entry) node) (recorded_same (n == length (log id node.records)) id entry node)
-top_taken t from (msg.UpHave id n) node = by_stray (stray_of t 0 from (msg.UpHave id n) node) node (accepted t 0 from (msg.UpHave id n) node) refl
-top_taken t from other node = by_stray (stray_of t 0 from other node) node (accepted t 0 from other node) refl
+    by_stray (stray_of t 0 from (msg.Up id n entry) node) node (after_message t 0 from (msg.Up id n entry) node) (recorded_same (n == length (log id node.records)) id entry node)
+top_taken t from (msg.UpHave id n) node = by_stray (stray_of t 0 from (msg.UpHave id n) node) node (after_message t 0 from (msg.UpHave id n) node) refl
+top_taken t from other node = by_stray (stray_of t 0 from other node) node (after_message t 0 from other node) refl
 
 taken_at : (t : Tree) (nodes : List NodeState) (k from : ℕ) (message : Message) → k ≡ 0
-    → jobs (taken t k from message (node_at nodes k)).node.records ≡ jobs (node_at nodes 0).records
+    → jobs (message_result t k from message (node_at nodes k)).node.records ≡ jobs (node_at nodes 0).records
 taken_at t nodes zero from message e = top_taken t from message (node_at nodes 0)
 taken_at t nodes (suc k) from message e = absurd (omega arith)
 
@@ -60,10 +60,10 @@ set_top nodes zero v h = elim (cases_lt 0 (length nodes)) [
 ]
 set_top nodes (suc k) v h = rw (at_other nodes 0 (suc k) v (λ e. omega arith)) refl
 
-delivered_top : (f : FleetConfig) (w : Network) (i : ℕ) → top_jobs (delivered f w (slice_get w.packets i)) ≡ top_jobs w
+delivered_top : (f : FleetConfig) (w : Network) (i : ℕ) → top_jobs (after_delivery f w (slice_get w.packets i)) ≡ top_jobs w
 delivered_top f w i = elim (slice_get_cases w.packets i).1 [
-  | inl c ↦ rw c.2 (by_receiver (λ v. top_jobs v ≡ top_jobs w) (nat_lt c.0.to (length w.nodes)) w (received f w c.0) refl
-      (set_top w.nodes c.0.to (taken f.tree c.0.to c.0.from c.0.message (node_at w.nodes c.0.to)).node
+  | inl c ↦ rw c.2 (by_receiver (λ v. top_jobs v ≡ top_jobs w) (nat_lt c.0.to (length w.nodes)) w (after_receipt f w c.0) refl
+      (set_top w.nodes c.0.to (message_result f.tree c.0.to c.0.from c.0.message (node_at w.nodes c.0.to)).node
       (taken_at f.tree w.nodes c.0.to c.0.from c.0.message)))
   | inr c ↦ rw c.1 refl
 ]

@@ -15,16 +15,16 @@ use Rattle.salt_wire.specs.declared.message.Message.TheVariants as msg
 use Rattle.node_core.specs.declared.faults.Stray.{Stray}
 use Rattle.fleet_config.specs.Fleet.{FleetConfig}
 use Rattle.fleet_config.specs.Tree.{Tree, id_of, parent_of, is_minion, is_parent, place_of, IsTree, branch}
-use Rattle.minion_core.specs.Flat.{nothing_held, is_rising, done}
+use Rattle.minion_core.specs.Flat.{nothing_held, is_rising, job_record}
 use Rattle.minion_core.proofs.Own.{done_is}
 use Rattle.tree_laws.proofs.Done.{count_done}
 use Rattle.node_core.specs.Records.{jobs, jobs_held, count_in, log}
-use Rattle.node_core.specs.Counts.{raised}
-use Rattle.node_core.specs.Node.{NodeState, Answer, with_record, taken_in, after_pub, after_up, accepted, is_neighbour, may_take, is_below, is_here, is_next, may_record, names_held, stray_of, unless_stray, taken}
+use Rattle.node_core.specs.Counts.{raised_counts}
+use Rattle.node_core.specs.Node.{NodeState, Answer, with_record, taken_in, after_pub, after_up, after_message, is_neighbour, may_take, is_below, is_here, is_next, may_record, names_held, stray_of, unless_stray, message_result}
 use Rattle.fleet_config.specs.Causes.{first_cause}
 use Rattle.node_core.specs.Node.Answer.{IsStray, Silent, Reply}
 use Rattle.tree_world.specs.Packets.{Packet}
-use Rattle.tree_world.specs.Network.{Network, node_at, with_node_at, with_packets, packet, with_reply, received}
+use Rattle.tree_world.specs.Network.{Network, node_at, with_node_at, with_packets, packet, with_reply, after_receipt}
 use Rattle.tree_laws.specs.Lists.{IsPrefix}
 use Rattle.tree_laws.specs.Invariant.{Fits, IsSent, Names, IsMaster, IsNode, IsPair, Holds}
 use Rattle.tree_laws.proofs.Lists.{prefix_same, prefix_next, prefix_at, prefix_length, all_join, all_imply, all_at}
@@ -113,13 +113,13 @@ FitsReply f me to node (Reply message) = Fits f me to node message
 -- node to takes a message of node from
 abbrev pub Took : Tree → Network → ℕ → ℕ → Message → Type 0
 Took f w from to message =
-    let t = taken f to from message (node_at w.nodes to) in
+    let t = message_result f to from message (node_at w.nodes to) in
     Holds f (with_node_at w to t.node) × FitsReply f to from t.node t.answer
 
 pub count_taken : (f : Tree) (i seq : ℕ) (job : Job) (node : NodeState) → count_in (taken_in f i seq job node) ≡ 1
 count_taken f i seq job node = either node.minion refl where
   either : (t : Bool) → node.minion ≡ t → count_in (taken_in f i seq job node) ≡ 1
-  either true e = rw e (count_done seq (done seq job (id_of f i) node.held) (done_is seq job (id_of f i) node.held))
+  either true e = rw e (count_done seq (job_record seq job (id_of f i) node.held) (done_is seq job (id_of f i) node.held))
   either false e = rw e refl
 
 unchanged : (f : Tree) (w : Network) (k : ℕ) → Holds f w → Holds f (with_node_at w k (node_at w.nodes k))
@@ -147,11 +147,11 @@ four_tests a b c d x y z u p q r s = rw (p, q, r, s) refl
 
 -- a message that passes its tests is taken
 by_none : (f : Tree) (me from : ℕ) (message : Message) (node : NodeState) → stray_of f me from message node ≡ None
-    → taken f me from message node ≡ accepted f me from message node
-by_none f me from message node e = ap (λ (o : Option Stray). unless_stray o node (accepted f me from message node)) e
+    → message_result f me from message node ≡ after_message f me from message node
+by_none f me from message node e = ap (λ (o : Option Stray). unless_stray o node (after_message f me from message node)) e
 
 pub taken_pub : (f : Tree) (me from seq : ℕ) (job : Job) (node : NodeState) → is_parent f from me ≡ true → may_take seq job node ≡ true
-    → taken f me from (msg.Pub seq job) node ≡ after_pub f me seq job node
+    → message_result f me from (msg.Pub seq job) node ≡ after_pub f me seq job node
 taken_pub f me from seq job node p g =
     by_none f me from (msg.Pub seq job) node (two_tests (is_neighbour f me from) (is_parent f from me && may_take seq job node) _ _ (of_parent f from me p) (and_true (is_parent f from me) (may_take seq job node) p g))
 
@@ -192,7 +192,7 @@ took_pub f w p c seq job fleet h fits =
     ])
 
 pub taken_have : (f : Tree) (me from n : ℕ) (node : NodeState) → is_parent f me from ≡ true → n ≤ jobs_held node.records
-    → taken f me from (msg.Have n) node ≡ record { node = record node { known_jobs = raised node.known_jobs from n }; answer = Silent }
+    → message_result f me from (msg.Have n) node ≡ record { node = record node { known_jobs = raised_counts node.known_jobs from n }; answer = Silent }
 taken_have f me from n node p l =
     by_none f me from (msg.Have n) node (three_tests (is_neighbour f me from) (is_parent f me from) (nat_le n (jobs_held node.records)) _ _ _ (of_child f me from p) p (le-leb n (jobs_held node.records) l))
 
@@ -209,18 +209,18 @@ took_have f w c p n fleet h fits =
     let y = fits.1 in
     let a : NodeState = node_at w.nodes p in
     rw (taken_have f p c n a fits.0 (omega arith)) (
-      node_step_same f w p (record a { known_jobs = raised a.known_jobs c n }) fleet h in' (prefix_same a.records)
+      node_step_same f w p (record a { known_jobs = raised_counts a.known_jobs c n }) fleet h in' (prefix_same a.records)
           (λ z. rw z refl)
-          (node_known f _ p a (record a { known_jobs = raised a.known_jobs c n }) refl refl refl (h.each p in'))
+          (node_known f _ p a (record a { known_jobs = raised_counts a.known_jobs c n }) refl refl refl (h.each p in'))
           (λ z. let g = h.pairs p z in' in record { held = g.held; known_jobs = g.known_jobs; logs = g.logs; known_ups = g.known_ups })
           (λ d dlo dup de.
           let g : IsPair f p d a (node_at w.nodes d) = rw de at (h.pairs d dlo dup) in
-          pair_above_known f p d a (node_at w.nodes d) (raised a.known_jobs c n) (raised_within a.known_jobs c n d _ g.known_jobs (λ s. rw s fits.1)) g),
+          pair_above_known f p d a (node_at w.nodes d) (raised_counts a.known_jobs c n) (raised_within a.known_jobs c n d _ g.known_jobs (λ s. rw s fits.1)) g),
       tt,
     )
 
 pub taken_up : (f : Tree) (me from : ℕ) (id : List ℕ) (n : ℕ) (entry : Entry) (node : NodeState) → is_parent f me from ≡ true → node.minion ≡ false → is_below f me from id ≡ true
-    → names_held (jobs_held node.records) entry ≡ true → may_record n id entry node ≡ true → taken f me from (msg.Up id n entry) node ≡ after_up id n entry node
+    → names_held (jobs_held node.records) entry ≡ true → may_record n id entry node ≡ true → message_result f me from (msg.Up id n entry) node ≡ after_up id n entry node
 taken_up f me from id n entry node p r b h g =
     by_none f me from (msg.Up id n entry) node (four_tests (is_neighbour f me from)
     (is_parent f me from && not node.minion && (not (is_below f me from id) || may_record n id entry node))
@@ -310,7 +310,7 @@ took_up f w c p id n entry fleet h fits =
 
 pub taken_up_have : (f : Tree) (me from : ℕ) (id : List ℕ) (n : ℕ) (node : NodeState) → is_parent f from me ≡ true → is_here f me id ≡ true
     → n ≤ length (log id node.records)
-    → taken f me from (msg.UpHave id n) node ≡ record { node = record node { known_ups = raised node.known_ups (place_of f id) n }; answer = Silent }
+    → message_result f me from (msg.UpHave id n) node ≡ record { node = record node { known_ups = raised_counts node.known_ups (place_of f id) n }; answer = Silent }
 taken_up_have f me from id n node p b l =
     by_none f me from (msg.UpHave id n) node (four_tests (is_neighbour f me from) (is_parent f from me) (is_here f me id) (nat_le n (length (log id node.records))) _ _ _ _
     (of_parent f from me p) p b (le-leb n (length (log id node.records)) l))
@@ -330,10 +330,10 @@ took_up_have f w p c id n fleet h fits =
     let y = fits.2 in
     let a : NodeState = node_at w.nodes c in
     rw (taken_up_have f c p id n a fits.0 fits.1 (omega arith)) (
-      node_step_same f w c (record a { known_ups = raised a.known_ups m n }) fleet h up (prefix_same a.records)
+      node_step_same f w c (record a { known_ups = raised_counts a.known_ups m n }) fleet h up (prefix_same a.records)
           (λ z. rw z refl)
-          (node_known f _ c a (record a { known_ups = raised a.known_ups m n }) refl refl refl (h.each c up))
-          (λ z. rw e (pair_below_known f p c (node_at w.nodes p) a (raised a.known_ups m n)
+          (node_known f _ c a (record a { known_ups = raised_counts a.known_ups m n }) refl refl refl (h.each c up))
+          (λ z. rw e (pair_below_known f p c (node_at w.nodes p) a (raised_counts a.known_ups m n)
           (λ j s. raised_within a.known_ups m n j _ (pair.known_ups j s) (λ t. rw (t, is) fits.2)) pair))
           (λ d dlo dup de.
           let g : IsPair f c d a (node_at w.nodes d) = rw de at (h.pairs d dlo dup) in
@@ -357,9 +357,9 @@ reply_step f w p (IsStray cause) h to from g = absurd g
 reply_step f w p Silent h to from g = h
 reply_step f w p (Reply message) h to from g = packets_step f w (packet p.to p.from message ∷ []) h (record { from = to; to = from; fits = g }, tt)
 
-pub received_step : (f : FleetConfig) (w : Network) (p : Packet) → IsTree f.tree → Holds f.tree w → IsSent f.tree w.nodes p → Holds f.tree (received f w p)
+pub received_step : (f : FleetConfig) (w : Network) (p : Packet) → IsTree f.tree → Holds f.tree w → IsSent f.tree w.nodes p → Holds f.tree (after_receipt f w p)
 received_step f w p fleet h s =
-    let t = taken f.tree p.to p.from p.message (node_at w.nodes p.to) in
+    let t = message_result f.tree p.to p.from p.message (node_at w.nodes p.to) in
     let g : Took f.tree w p.from p.to p.message = took f.tree w p.from p.to p.message fleet h s.fits in
     let in' : p.to < length w.nodes = let z = h.size in let y = s.to in omega arith in
     reply_step f.tree (with_node_at w p.to t.node) p t.answer g.0 s.to s.from (rw (at_same w.nodes p.to t.node in') g.1)

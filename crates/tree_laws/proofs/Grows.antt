@@ -12,10 +12,10 @@ use Rattle.salt_wire.specs.declared.deed.Deed.TheVariants.{Publish, Up}
 use Rattle.salt_wire.specs.declared.message.Message.{Message}
 use Rattle.salt_wire.specs.declared.message.Message.TheVariants as msg
 use Rattle.node_core.specs.Records.{jobs_held, log}
-use Rattle.node_core.specs.Node.{NodeState, Taken, with_record, recorded, taken_in, accepted, stray_of, unless_stray, taken, job_of}
+use Rattle.node_core.specs.Node.{NodeState, MessageResult, with_record, with_next_record, taken_in, after_message, stray_of, unless_stray, message_result, job_of}
 use Rattle.fleet_turns.specs.declared.turn.Turn.{Turn}
 use Rattle.fleet_turns.specs.declared.turn.Turn.TheVariants as kind
-use Rattle.tree_world.specs.Network.{Network, node_at, top_jobs, received, delivered, after, after_all}
+use Rattle.tree_world.specs.Network.{Network, node_at, top_jobs, after_receipt, after_delivery, after, after_all}
 use Rattle.tree_laws.specs.Lists.{IsPrefix}
 use Rattle.tree_laws.proofs.Lists.{prefix_same, prefix_trans}
 use Rattle.tree_laws.proofs.Records.{jobs_prefix}
@@ -23,23 +23,23 @@ use Rattle.tree_laws.proofs.Calls.{at_grows}
 use Rattle.tree_laws.proofs.Turns.{published_either, by_receiver}
 
 -- one call on a node
-recorded_grows : (t : Bool) (new : Deed) (node : NodeState) → IsPrefix node.records (recorded t new node).records
+recorded_grows : (t : Bool) (new : Deed) (node : NodeState) → IsPrefix node.records (with_next_record t new node).records
 recorded_grows true new node = (new ∷ [], refl)
 recorded_grows false new node = prefix_same node.records
 
-accepted_grows : (f : Tree) (me from : ℕ) (message : Message) (node : NodeState) → IsPrefix node.records (accepted f me from message node).node.records
+accepted_grows : (f : Tree) (me from : ℕ) (message : Message) (node : NodeState) → IsPrefix node.records (after_message f me from message node).node.records
 accepted_grows f me from (msg.Pub seq job) node = recorded_grows (seq == jobs_held node.records) (taken_in f me seq job node) node
 accepted_grows f me from (msg.Have n) node = prefix_same node.records
 accepted_grows f me from (msg.Up id n entry) node = recorded_grows (n == length (log id node.records)) (Up id entry) node
 accepted_grows f me from (msg.UpHave id n) node = prefix_same node.records
 accepted_grows f me from other node = prefix_same node.records
 
-taken_by_grows : (o : Option Stray) (node : NodeState) (done : Taken) → IsPrefix node.records done.node.records → IsPrefix node.records (unless_stray o node done).node.records
+taken_by_grows : (o : Option Stray) (node : NodeState) (done : MessageResult) → IsPrefix node.records done.node.records → IsPrefix node.records (unless_stray o node done).node.records
 taken_by_grows None node done p = p
 taken_by_grows (Some cause) node done p = prefix_same node.records
 
-taken_grows : (f : Tree) (me from : ℕ) (message : Message) (node : NodeState) → IsPrefix node.records (taken f me from message node).node.records
-taken_grows f me from message node = taken_by_grows (stray_of f me from message node) node (accepted f me from message node) (accepted_grows f me from message node)
+taken_grows : (f : Tree) (me from : ℕ) (message : Message) (node : NodeState) → IsPrefix node.records (message_result f me from message node).node.records
+taken_grows f me from message node = taken_by_grows (stray_of f me from message node) node (after_message f me from message node) (accepted_grows f me from message node)
 
 -- one network has the records of another, and maybe more
 abbrev pub Grew : Network → Network → Type 0
@@ -52,10 +52,10 @@ set_grows nodes k v p i = elim (cases_lt k (length nodes)) [
   | inr l ↦ rw (set_past nodes k v l) (prefix_same (node_at nodes i).records)
 ]
 
-delivered_grows : (f : FleetConfig) (w : Network) (i : ℕ) → Grew w (delivered f w (slice_get w.packets i))
+delivered_grows : (f : FleetConfig) (w : Network) (i : ℕ) → Grew w (after_delivery f w (slice_get w.packets i))
 delivered_grows f w i = elim (slice_get_cases w.packets i).1 [
-  | inl c ↦ rw c.2 (by_receiver (Grew w) (nat_lt c.0.to (length w.nodes)) w (received f w c.0) (λ j. prefix_same (node_at w.nodes j).records)
-      (set_grows w.nodes c.0.to (taken f.tree c.0.to c.0.from c.0.message (node_at w.nodes c.0.to)).node
+  | inl c ↦ rw c.2 (by_receiver (Grew w) (nat_lt c.0.to (length w.nodes)) w (after_receipt f w c.0) (λ j. prefix_same (node_at w.nodes j).records)
+      (set_grows w.nodes c.0.to (message_result f.tree c.0.to c.0.from c.0.message (node_at w.nodes c.0.to)).node
       (taken_grows f.tree c.0.to c.0.from c.0.message (node_at w.nodes c.0.to))))
   | inr c ↦ rw c.1 (λ i. prefix_same (node_at w.nodes i).records)
 ]

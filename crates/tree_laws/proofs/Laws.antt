@@ -8,14 +8,14 @@ use Rattle.salt_value.specs.declared.outcome.Outcome.{Outcome}
 use Rattle.salt_wire.specs.declared.deed.Deed.{Deed}
 use Rattle.node_core.specs.declared.faults.Stray.{Stray}
 use Rattle.fleet_config.specs.Tree.{Tree, id_of, parent_of, is_minion, is_within, IsTree, minions}
-use Rattle.minion_core.specs.Flat.{row_of, done, held_after, held_by, entries_in, flat_records, flat_up, acts, return_of}
+use Rattle.minion_core.specs.Flat.{row_of, job_record, held_after, held_by, entries_in, flat_records, flat_up, acts, return_of}
 use Rattle.node_core.specs.Records.{jobs_held, log, log_after}
 use Rattle.std.specs.Prelude.{flat_map}
 use Rattle.exec_functions.specs.declared.holdings.Holdings.{Holdings}
 use Rattle.salt_wire.specs.declared.deed.Deed.{Deed}
 use Rattle.fleet_config.specs.Tree.{place_of}
 use Rattle.tree_laws.proofs.Records.{held_without}
-use Rattle.node_core.specs.Node.{NodeState, Answer, taken, held_of}
+use Rattle.node_core.specs.Node.{NodeState, Answer, message_result, held_of}
 use Rattle.node_core.specs.Node.Answer.{IsStray}
 use Rattle.tree_world.specs.Packets.{Packet}
 use Rattle.tree_world.specs.Network.{Network, node_at, top_jobs}
@@ -69,7 +69,7 @@ records_join : (k : ℕ) (id : List ℕ) (h : Holdings) (xs ys : List Job)
     → flat_records k id h (xs ++ ys) ≡ flat_records k id h xs ++ flat_records (k + length xs) id (held_by h (flat_records k id h xs)) ys
 records_join k id h [] ys = let e : k + 0 ≡ k = omega arith in rw e refl
 records_join k id h (x ∷ xs) ys = let e : k + suc (length xs) ≡ k + 1 + length xs = omega arith in
-    rw (records_join (k + 1) id (held_after h (done k x id h)) xs ys, e) refl
+    rw (records_join (k + 1) id (held_after h (job_record k x id h)) xs ys, e) refl
 
 pub flat_prefix : (id : List ℕ) (h : Holdings) (xs ys : List Job) → IsPrefix xs ys → IsPrefix (flat_up 0 id h xs) (flat_up 0 id h ys)
 flat_prefix id h xs ys p = (_, sym (flat_map_join (flat_records 0 id h xs) _) ∙ ap (flat_map entries_in) (sym (records_join 0 id h xs p.0)) ∙ ap (λ (l : List Job). flat_up 0 id h l) p.1)
@@ -158,7 +158,7 @@ stray_never f me to node answer cause g e = rw e at g
 
 pub taken_law : (f : Tree) (w : Network) (p : Packet) → IsTree f → Holds f w → IsSent f w.nodes p → IsTaken f w p
 taken_law f w p fleet h s = λ cause e.
-    let t = taken f p.to p.from p.message (node_at w.nodes p.to) in
+    let t = message_result f p.to p.from p.message (node_at w.nodes p.to) in
     stray_never f p.to p.from t.node t.answer cause (took f w p.from p.to p.message fleet h s.fits).1 e
 
 pub none_stray_law : (f : Tree) (w : Network) → IsTree f → Holds f w → All (IsTaken f w) w.packets

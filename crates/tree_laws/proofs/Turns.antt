@@ -16,7 +16,7 @@ use Rattle.fleet_config.specs.Fleet.{FleetConfig, IsFleet}
 use Rattle.fleet_config.specs.Tree.{Tree, member, id_of, parent_of, is_minion, is_parent, is_within, IsTree, up_to, minions, runs_jobs}
 use Rattle.minion_core.specs.Flat.{nothing_held, last_jid, is_after, is_later}
 use Rattle.node_core.specs.Records.{jobs, jobs_held, log}
-use Rattle.node_core.specs.Counts.{known}
+use Rattle.node_core.specs.Counts.{known_count}
 use Rattle.node_core.specs.Node.{held_of, NodeState, with_record, is_here, pubs_from, ups_from, pending_ups, pending, publication, first_node, job_of}
 use Rattle.node_core.specs.declared.faults.PublishFault.TheVariants.{JidEnd}
 use Rattle.salt_value.specs.Jid.{next_jid, greatest_jid}
@@ -24,7 +24,7 @@ use Rattle.std.specs.Option.{ok_or}
 use Rattle.std.specs.Prelude.{min}
 use Rattle.fleet_turns.specs.declared.turn.Turn.{Turn}
 use Rattle.fleet_turns.specs.declared.turn.Turn.TheVariants as kind
-use Rattle.tree_world.specs.Network.{Network, node_at, start, top_jobs, with_node_at, with_packets, published, packet, sent, received, delivered, after, after_all, most_sent}
+use Rattle.tree_world.specs.Network.{Network, node_at, start, top_jobs, with_node_at, with_packets, after_publication, packet, sent_packets, after_receipt, after_delivery, after, after_all, most_sent}
 use Rattle.fleet_turns.specs.Turns.{IsTurn}
 use Rattle.tree_laws.specs.Invariant.{Fits, IsSent, Names, IsNode, IsPair, Holds}
 use Rattle.tree_laws.proofs.Lists.{prefix_same, all_join, all_imply, all_at, all_map, all_take, at_drop}
@@ -40,9 +40,9 @@ pub by_receiver : (P : Network → Type 0) (there : Bool) (w v : Network) → P 
 by_receiver P true w v a b = b
 by_receiver P false w v a b = a
 
-pub delivered_step : (f : FleetConfig) (w : Network) (i : ℕ) → IsTree f.tree → Holds f.tree w → Holds f.tree (delivered f w (slice_get w.packets i))
+pub delivered_step : (f : FleetConfig) (w : Network) (i : ℕ) → IsTree f.tree → Holds f.tree w → Holds f.tree (after_delivery f w (slice_get w.packets i))
 delivered_step f w i fleet h = elim (slice_get_cases w.packets i).1 [
-  | inl c ↦ rw c.2 (by_receiver (Holds f.tree) (nat_lt c.0.to (length w.nodes)) w (received f w c.0) h
+  | inl c ↦ rw c.2 (by_receiver (Holds f.tree) (nat_lt c.0.to (length w.nodes)) w (after_receipt f w c.0) h
       (received_step f w c.0 fleet h (all_at (IsSent f.tree w.nodes) w.packets i c.0 h.sent c.2)))
   | inr c ↦ rw c.1 h
 ]
@@ -93,16 +93,16 @@ next_later (Some last) moment jid e =
 -- whatever holds of the network as it was, and as it is with the record, holds after a publication
 pub published_either : (P : Network → Type 0) (w : Network) (max_jobs moment : ℕ) (job : ℕ → Job) → P w
     → ((jid : ℕ) → length (top_jobs w) < max_jobs → is_after (last_jid (top_jobs w)) jid ≡ true → P (with_node_at w 0 (with_record (Publish (job jid)) (node_at w.nodes 0))))
-    → P (published job (publication max_jobs moment (top_jobs w)) w)
+    → P (after_publication job (publication max_jobs moment (top_jobs w)) w)
 published_either P w max_jobs moment job old more = elim (leb_tells max_jobs (length (top_jobs w))) [
   | inl y ↦ rw y.0 old
   | inr y ↦ rw y.0 (go (omega arith) (next_jid (last_jid (top_jobs w)) moment) refl)
 ] where
-  go : length (top_jobs w) < max_jobs → (o : Option ℕ) → next_jid (last_jid (top_jobs w)) moment ≡ o → P (published job (ok_or o JidEnd) w)
+  go : length (top_jobs w) < max_jobs → (o : Option ℕ) → next_jid (last_jid (top_jobs w)) moment ≡ o → P (after_publication job (ok_or o JidEnd) w)
   go few None e = old
   go few (Some jid) e = more jid few (next_later (last_jid (top_jobs w)) moment jid e)
 
-publish_step : (f : FleetConfig) (w : Network) (moment : ℕ) (job : ℕ → Job) → ((jid : ℕ) → (job jid).jid ≡ jid) → IsFleet f → Holds f.tree w → Holds f.tree (published job (publication f.max_jobs moment (top_jobs w)) w)
+publish_step : (f : FleetConfig) (w : Network) (moment : ℕ) (job : ℕ → Job) → ((jid : ℕ) → (job jid).jid ≡ jid) → IsFleet f → Holds f.tree w → Holds f.tree (after_publication job (publication f.max_jobs moment (top_jobs w)) w)
 publish_step f w moment job named fleet h =
     published_either (Holds f.tree) w f.max_jobs moment job h
     (λ jid few late. add_step f.tree w (job jid) fleet.tree h (let l = fleet.jobs in omega arith) (subst (λ j. is_after (last_jid (top_jobs w)) j ≡ true) (sym (named jid)) late))
@@ -156,22 +156,22 @@ not_both f a b fleet p =
 
 pending_fits : (f : Tree) (me to : ℕ) (node : NodeState) → IsTree f → (is_parent f me to ≡ true) ⊎ (is_parent f to me ≡ true) → AllByRecursion (Fits f me to node) (pending f me to node)
 pending_fits f me to node fleet (inl p) =
-    let count : ℕ = known node.known_jobs to in
+    let count : ℕ = known_count node.known_jobs to in
     rw p (pubs_fit f me to node p count (drop count (jobs node.records)) (λ k job at. rw (at_drop count (jobs node.records) k) at at))
 pending_fits f me to node fleet (inr p) =
     rw (not_both f to me fleet p) (
       (p, le_refl _),
       all_flat (IsMinionIn f me) (Fits f me to node) (pending_ups f node)
-          (λ m i. let count : ℕ = known node.known_ups m in
+          (λ m i. let count : ℕ = known_count node.known_ups m in
           ups_fit f me to (id_of f m) node p (here_minion f me m fleet i) count (drop count (log (id_of f m) node.records)) (λ k x at. rw (at_drop count (log (id_of f m) node.records) k) at at))
           (minions f me) (minions_in f me),
     )
 
 send_step : (f : FleetConfig) (w : Network) (from to count : ℕ) → Holds f.tree w → from < length f.tree → to < length f.tree → AllByRecursion (Fits f.tree from to (node_at w.nodes from)) (pending f.tree from to (node_at w.nodes from))
-    → Holds f.tree (with_packets w (sent f from to count w))
+    → Holds f.tree (with_packets w (sent_packets f from to count w))
 send_step f w from to count h lf lt g =
     let all : List Message = pending f.tree from to (node_at w.nodes from) in
-    packets_step f.tree w (sent f from to count w) h
+    packets_step f.tree w (sent_packets f from to count w) h
     (all_map (Fits f.tree from to (node_at w.nodes from)) (IsSent f.tree w.nodes) (packet from to) (λ message x. record { from = lf; to = lt; fits = x }) (take (min count most_sent) all)
     (all_take (Fits f.tree from to (node_at w.nodes from)) (min count most_sent) all g))
 

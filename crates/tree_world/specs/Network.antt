@@ -8,7 +8,7 @@ use Rattle.salt_wire.specs.declared.message.Message.{Message}
 use Rattle.node_core.specs.declared.faults.PublishFault.{PublishFault}
 use Rattle.node_core.specs.Records.{jobs}
 use Rattle.minion_core.specs.Flat.{nothing_held}
-use Rattle.node_core.specs.Node.{NodeState, Answer, Taken, job_of, first_node, with_record, taken, pending, publication}
+use Rattle.node_core.specs.Node.{NodeState, Answer, MessageResult, job_of, first_node, with_record, message_result, pending, publication}
 use Rattle.node_core.specs.Node.Answer.{IsStray, Silent, Reply}
 use Rattle.tree_world.specs.Packets.{Packet}
 use Rattle.fleet_turns.specs.declared.turn.Turn.{Turn}
@@ -50,9 +50,9 @@ abbrev pub with_packets : Network → List Packet → Network
 with_packets w new = record w { packets = w.packets ++ new }
 
 -- a publication adds one record at the top, that of the job with its jid, or nothing where it is refused
-abbrev pub published : (ℕ → Job) → Result ℕ PublishFault → Network → Network
-published job (Err cause) w = w
-published job (Ok jid) w = with_node_at w 0 (with_record (r.Publish (job jid)) (node_at w.nodes 0))
+abbrev pub after_publication : (ℕ → Job) → Result ℕ PublishFault → Network → Network
+after_publication job (Err cause) w = w
+after_publication job (Ok jid) w = with_node_at w 0 (with_record (r.Publish (job jid)) (node_at w.nodes 0))
 
 -- a message on its way between two places
 abbrev pub packet : ℕ → ℕ → Message → Packet
@@ -63,8 +63,8 @@ abbrev pub most_sent : ℕ
 most_sent = 4294967295
 
 -- the first pending messages of a node for another one, as packets; a count over the greatest means that
-abbrev pub sent : FleetConfig → ℕ → ℕ → ℕ → Network → List Packet
-sent f from to count w = map (packet from to) (take (min count most_sent) (pending f.tree from to (node_at w.nodes from)))
+abbrev pub sent_packets : FleetConfig → ℕ → ℕ → ℕ → Network → List Packet
+sent_packets f from to count w = map (packet from to) (take (min count most_sent) (pending f.tree from to (node_at w.nodes from)))
 
 -- the packets, with the reply to one of them
 abbrev pub with_reply : Packet → Answer → List Packet → List Packet
@@ -73,30 +73,30 @@ with_reply p Silent packets = packets
 with_reply p (Reply message) packets = packets ++ packet p.to p.from message ∷ []
 
 -- No public contract cites it. The packets, with a reply, if there is one
-abbrev pub replied : Packet → Option Message → List Packet → List Packet
-replied p None packets = packets
-replied p (Some message) packets = packets ++ packet p.to p.from message ∷ []
+abbrev pub with_reply_if_any : Packet → Option Message → List Packet → List Packet
+with_reply_if_any p None packets = packets
+with_reply_if_any p (Some message) packets = packets ++ packet p.to p.from message ∷ []
 
 -- what the receiver of a packet does with it
-abbrev pub reception : FleetConfig → List NodeState → Packet → Taken
-reception f nodes p = taken f.tree p.to p.from p.message (node_at nodes p.to)
+abbrev pub reception : FleetConfig → List NodeState → Packet → MessageResult
+reception f nodes p = message_result f.tree p.to p.from p.message (node_at nodes p.to)
 
 -- the network after the receiver took a packet
-abbrev pub received : FleetConfig → Network → Packet → Network
-received f w p =
+abbrev pub after_receipt : FleetConfig → Network → Packet → Network
+after_receipt f w p =
     let t = reception f w.nodes p in
     record w { nodes = slice_set w.nodes p.to t.node; packets = with_reply p t.answer w.packets }
 
 -- a packet that is not there, or goes to no node, does nothing
-abbrev pub delivered : FleetConfig → Network → Option Packet → Network
-delivered f w None = w
-delivered f w (Some p) = if nat_lt p.to (length w.nodes) then received f w p else w
+abbrev pub after_delivery : FleetConfig → Network → Option Packet → Network
+after_delivery f w None = w
+after_delivery f w (Some p) = if nat_lt p.to (length w.nodes) then after_receipt f w p else w
 
 -- the network after a turn
 abbrev pub after : FleetConfig → Turn → Network → Network
-after f (Publish moment tgt fun args) w = published (λ jid. job_of jid tgt fun args) (publication f.max_jobs moment (top_jobs w)) w
-after f (Send from to count) w = with_packets w (sent f from to count w)
-after f (Deliver i) w = delivered f w (slice_get w.packets i)
+after f (Publish moment tgt fun args) w = after_publication (λ jid. job_of jid tgt fun args) (publication f.max_jobs moment (top_jobs w)) w
+after f (Send from to count) w = with_packets w (sent_packets f from to count w)
+after f (Deliver i) w = after_delivery f w (slice_get w.packets i)
 after f (Report jid) w = w
 after f (t.Packet i) w = w
 

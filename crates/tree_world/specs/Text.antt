@@ -73,17 +73,17 @@ packet_text f i (Some p) =
     line (codes "packet " ++ decimal i ++ codes " " ++ id_of f.tree p.from ++ codes " " ++ id_of f.tree p.to ++ codes " " ++ encode_lower (body p.message))
 
 -- what a turn prints
-abbrev pub printed : FleetConfig → Turn → Network → List ℕ
-printed f (Publish moment tgt fun args) w = publish_text (publication f.max_jobs moment (top_jobs w))
-printed f (Send from to count) w = []
-printed f (Deliver i) w = []
-printed f (Report jid) w = report_text f w jid (number_of jid (top_jobs w))
-printed f (t.Packet i) w = packet_text f i (slice_get w.packets i)
+abbrev pub printed_text : FleetConfig → Turn → Network → List ℕ
+printed_text f (Publish moment tgt fun args) w = publish_text (publication f.max_jobs moment (top_jobs w))
+printed_text f (Send from to count) w = []
+printed_text f (Deliver i) w = []
+printed_text f (Report jid) w = report_text f w jid (number_of jid (top_jobs w))
+printed_text f (t.Packet i) w = packet_text f i (slice_get w.packets i)
 
 -- the text of a run from here on
 abbrev pub text_from : FleetConfig → List Turn → Network → List ℕ
 text_from f [] w = line (codes "end")
-text_from f (turn ∷ turns) w = printed f turn w ++ text_from f turns (after f turn w)
+text_from f (turn ∷ turns) w = printed_text f turn w ++ text_from f turns (after f turn w)
 
 -- the text of a whole run
 abbrev pub text_of : FleetConfig → List Turn → List ℕ

@@ -4,11 +4,11 @@ ghost use Rattle.salt_value.specs.declared.value.Value.TheVariants as v;
 ghost use Rattle.salt_value.specs.WellFormed.{ValueFits};
 ghost use Rattle.node_core.specs.Node.{job_of, first_node, pending, is_neighbour, IsCounted};
 ghost use Rattle.salt_wire.specs.Limits.{Within};
-ghost use Rattle.tree_world.specs.Network.{node_at, reception, with_reply, replied};
+ghost use Rattle.tree_world.specs.Network.{node_at, reception, with_reply, with_reply_if_any};
 ghost use Rattle.tree_world.specs.Packets.{Packet};
 ghost use Rattle.tree_world.specs.Network as network;
 ghost use Rattle.salt_outside.specs.Causes.{CountsFaults};
-ghost use Rattle.salt_outside.specs.Streams.{appended, IsPart};
+ghost use Rattle.salt_outside.specs.Streams.{contents_after, IsPart};
 
 use crate::packet::Packet;
 use crate::report::{rows_of, sort_by_id};
@@ -79,10 +79,10 @@ impl From<AllocError> for StepFault {
 }
 
 impl World {
-    ghost use Rattle.tree_world.specs.Network.{System, system, after, published, node_at, top_jobs};
+    ghost use Rattle.tree_world.specs.Network.{System, system, after, after_publication, node_at, top_jobs};
     ghost use Rattle.fleet_turns.specs.Turns.{IsTurn};
     ghost use Rattle.node_core.specs.Node.{publication, is_neighbour};
-    ghost use Rattle.tree_world.specs.Text.{printed};
+    ghost use Rattle.tree_world.specs.Text.{printed_text};
 
     /// The nodes of a fleet as they start, where it has one: each minion has booted once.
     pub fn of(alloc: Global, fleet: Fleet) -> Result<World, AllocError>
@@ -115,8 +115,8 @@ impl World {
         requires { IsTurn self.old.fleet turn.now }
         ensures ok { OnOk result (self.new.network ≡ after self.old.fleet turn.now self.old.network) }
         ensures fleet { self.new.fleet ≡ self.old.fleet }
-        ensures text { OnOk result (K.held sink.new ≡ appended (K.held sink.old) (printed self.old.fleet turn.now self.old.network)) }
-        ensures part { IsPart (K.held sink.old) (K.held sink.new) (printed self.old.fleet turn.now self.old.network) }
+        ensures text { OnOk result (K.held sink.new ≡ contents_after (K.held sink.old) (printed_text self.old.fleet turn.now self.old.network)) }
+        ensures part { IsPart (K.held sink.old) (K.held sink.new) (printed_text self.old.fleet turn.now self.old.network) }
         ensures faults { CountsFaults (IsErrOf result StepFault.WriteFault) (K.faults sink.old) (K.faults sink.new) }
     {
         match turn {
@@ -153,7 +153,7 @@ impl World {
         requires { ValueFits (v.List args.now) }
         ensures state { OnOk result (self.new.network ≡ after self.old.fleet (Turn.Publish moment tgt.now fun.now args.now) self.old.network) }
         ensures fleet { self.new.fleet ≡ self.old.fleet }
-        ensures text { IfOk result (λ text. text.items ≡ printed self.old.fleet (Turn.Publish moment tgt.now fun.now args.now) self.old.network) }
+        ensures text { IfOk result (λ text. text.items ≡ printed_text self.old.fleet (Turn.Publish moment tgt.now fun.now args.now) self.old.network) }
     {
         match self.publish_at_top(moment, tgt, fun, args) {
             Ok(jid) => published_text(self.alloc, jid),
@@ -173,7 +173,7 @@ impl World {
     ) -> Result<Jid, PublishFault>
         requires { ValueFits (v.List args.now) }
         ensures ok { IfOk result (λ jid. publication self.old.fleet.max_jobs moment (top_jobs self.old.network) ≡ Ok jid) }
-        ensures state { IfOk result (λ jid. self.new.network ≡ published (λ jid. job_of jid tgt.now fun.now args.now) (Ok jid) self.old.network) }
+        ensures state { IfOk result (λ jid. self.new.network ≡ after_publication (λ jid. job_of jid tgt.now fun.now args.now) (Ok jid) self.old.network) }
         ensures err { OnErr result (self.new.network ≡ self.old.network) }
         ensures fault { IfErr result (λ fault. fault ≢ PublishFault.NoMemory → publication self.old.fleet.max_jobs moment (top_jobs self.old.network) ≡ Err fault) }
         ensures fleet { self.new.fleet ≡ self.old.fleet }
@@ -186,7 +186,7 @@ impl World {
 
     // The lines of a report.
     fn report(&self, jid: Jid) -> Result<Vec<u8>, AllocError>
-        ensures { IfOk result (λ text. text.items ≡ printed self.now.fleet (Turn.Report jid) self.now.network) }
+        ensures { IfOk result (λ text. text.items ≡ printed_text self.now.fleet (Turn.Report jid) self.now.network) }
     {
         let Some(top) = self.nodes.first() else {
             unreachable!();
@@ -200,7 +200,7 @@ impl World {
 
     // The line of a packet.
     fn packet(&self, i: u64) -> Result<Vec<u8>, AllocError>
-        ensures { IfOk result (λ text. text.items ≡ printed self.now.fleet (Turn.Packet i) self.now.network) }
+        ensures { IfOk result (λ text. text.items ≡ printed_text self.now.fleet (Turn.Packet i) self.now.network) }
     {
         match at(&self.packets, i as usize) {
             Some(packet) => packet_text(self.alloc, &self.fleet, i, packet),
@@ -250,7 +250,7 @@ fn take_packet(
     requires node { packet.now.to < length nodes.old.items }
     requires nodes { length nodes.old.items ≡ length fleet.now.tree }
     ensures nodes { OnOk result (nodes.new.items ≡ slice_set nodes.old.items packet.now.to (reception fleet.now nodes.old.items packet.now).node) }
-    ensures reply { IfOk result (λ reply. (packets : List Packet) → with_reply packet.now (reception fleet.now nodes.old.items packet.now).answer packets ≡ replied packet.now reply packets) }
+    ensures reply { IfOk result (λ reply. (packets : List Packet) → with_reply packet.now (reception fleet.now nodes.old.items packet.now).answer packets ≡ with_reply_if_any packet.now reply packets) }
     ensures count { length nodes.new.items ≡ length nodes.old.items }
     ensures fits { IfOk result (λ reply. IfSome reply Within) }
     ensures counted { IfOk result (λ reply. IfSome reply IsCounted) }
@@ -276,7 +276,7 @@ fn push_reply(
 ) -> Result<(), AllocError>
     requires fits { IfSome reply Within }
     requires counted { IfSome reply IsCounted }
-    ensures { (p : Packet) → p.from ≡ from → p.to ≡ to → OnOk result (packets.new.items ≡ replied p reply packets.old.items) }
+    ensures { (p : Packet) → p.from ≡ from → p.to ≡ to → OnOk result (packets.new.items ≡ with_reply_if_any p reply packets.old.items) }
 {
     if let Some(message) = reply {
         let packet = Packet::new(alloc, to, from, &message);
@@ -328,7 +328,7 @@ fn push_packets(
 
 /// Writes a text.
 pub fn tell<K: Sink>(sink: &mut K, text: &[u8]) -> Result<(), StepFault>
-    ensures ok { OnOk result (K.held sink.new ≡ appended (K.held sink.old) text.now) }
+    ensures ok { OnOk result (K.held sink.new ≡ contents_after (K.held sink.old) text.now) }
     ensures part { IsPart (K.held sink.old) (K.held sink.new) text.now }
     ensures faults { CountsFaults (IsErrOf result StepFault.WriteFault) (K.faults sink.old) (K.faults sink.new) }
 {

@@ -1,5 +1,5 @@
 use Rattle.std.proofs.Common.{◌≡◌, ℕ, ◌+◌, ◌-◌, List, [], ◌∷◌, ◌++◌, length, sym, subst, inl, rules, IsErrOf}
-use Rattle.salt_disk.specs.Disk.{DiskState, part_of, settled, put}
+use Rattle.salt_disk.specs.Disk.{DiskState, part_of, settled_part, put}
 use Rattle.salt_disk.specs.declared.disk.DiskFault.TheVariants.{Failed}
 use Rattle.salt_disk.specs.Crash.{WritesOnly}
 use Rattle.salt_disk.proofs.Torn.{on_ok}
@@ -31,7 +31,7 @@ returns-clause-ok g c = λ told.
     let mid = g.D.Disk.state c.write_through.new.disk in
     let new = g.D.Disk.state c.write_through-2.new.disk in
     on_ok c.write_through-2.result
-    (part_of new c.args.part ≡ settled (put (c.args.len - 1) (1 ∷ []) (part_of mid c.args.part).bytes))
+    (part_of new c.args.part ≡ settled_part (put (c.args.len - 1) (1 ∷ []) (part_of mid c.args.part).bytes))
     ((limit : ℕ) (payloads : List (List ℕ)) (payload : List ℕ) → IsNext limit c.args.len payloads payload c.args.body.now (part_of old c.args.part)
     → Rests limit (c.args.len + 5 + length payload) (payloads ++ payload ∷ []) (part_of new c.args.part))
     (λ is limit payloads payload next. rests_new c.args.part limit c.args.len payloads payload c.args.body.now old next mid

@@ -1,5 +1,5 @@
 use Rattle.std.proofs.Common.{◌≡◌, ◌≤◌, [], ◌∷◌, length, refl, ◌∙◌, ap, arith}
-use Rattle.salt_disk.specs.Disk.{PartState, part_of, settled, put}
+use Rattle.salt_disk.specs.Disk.{PartState, part_of, settled_part, put}
 use Rattle.salt_disk.specs.Crash.{WritesOnly}
 use Rattle.salt_disk.proofs.Moments.{joins, weakens}
 use Rattle.salt_disk.proofs.Torn.{on_ok}
@@ -32,7 +32,7 @@ returns-clause-ok g c = λ told.
     let old = part_of (g.D.Disk.state c.args.disk.now) c.args.part in
     let mid = part_of (g.D.Disk.state c.write_through.new.disk) c.args.part in
     let new = part_of (g.D.Disk.state c.write_through-2.new.disk) c.args.part in
-    on_ok c.write_through-2.result (new ≡ settled (put 0 (83 ∷ []) mid.bytes)) (Rests c.args.limit 17 [] new)
+    on_ok c.write_through-2.result (new ≡ settled_part (put 0 (83 ∷ []) mid.bytes)) (Rests c.args.limit 17 [] new)
     (λ is. made c.args.limit c.header_but_one.result old mid new c.header_but_one.ensures (c.requires.short told) (c.in_ok-write_through.ensures.ok told) is c.requires.least c.requires.greatest)
     (c.write_through-2.ensures.ok told)
 
@@ -41,6 +41,6 @@ returns-clause-bytes g c = λ told.
     let old = part_of (g.D.Disk.state c.args.disk.now) c.args.part in
     let mid = part_of (g.D.Disk.state c.write_through.new.disk) c.args.part in
     let new = part_of (g.D.Disk.state c.write_through-2.new.disk) c.args.part in
-    on_ok c.write_through-2.result (new ≡ settled (put 0 (83 ∷ []) mid.bytes)) (new.bytes ≡ fresh_journal c.args.limit)
+    on_ok c.write_through-2.result (new ≡ settled_part (put 0 (83 ∷ []) mid.bytes)) (new.bytes ≡ fresh_journal c.args.limit)
     (λ is. made_bytes c.args.limit c.header_but_one.result old mid new c.header_but_one.ensures (c.requires.short told) (c.in_ok-write_through.ensures.ok told) is)
     (c.write_through-2.ensures.ok told)

@@ -1,5 +1,5 @@
 use Rattle.std.proofs.Common.{◌∙◌, ◌++◌, sym, ap, arith, append_assoc}
-use Rattle.tree_world.specs.Text.{printed}
+use Rattle.tree_world.specs.Text.{printed_text}
 use Rattle.salt_replay.proofs.Turns.{text_step, text_end, part_within, part_last, told_more}
 use Rattle.salt_replay.proofs.replay.run_turns.Goals as goal
 
@@ -17,7 +17,7 @@ loop-turn-preserved g c =
     let step = text_step c.loop-turn.world.fleet c.args.turns.now c.loop-turn.turn-index turn c.loop-turn.world.network (omega arith) c.turn-item.is in
     record {
       told = (
-        told.0 ++ printed c.loop-turn.world.fleet turn c.loop-turn.world.network,
+        told.0 ++ printed_text c.loop-turn.world.fleet turn c.loop-turn.world.network,
         told_more _ _ _ told.0 _ told.1 done.text,
         append_assoc told.0 _ _ ∙ (rw (done.ok, c.step.ensures.fleet) (ap (λ t. told.0 ++ t) (sym step) ∙ told.2)),
       );

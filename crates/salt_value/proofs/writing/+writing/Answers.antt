@@ -3,7 +3,7 @@ use Rattle.std.specs.Int.{w32, to_be_bytes}
 use Rattle.std.proofs.lemmas.List.{take_more}
 use denote.Param.Weighed.{at_most}
 use Rattle.salt_value.specs.declared.value.Value.{size-Value}
-use Rattle.salt_value.specs.Spelling.{bytes, text, joined, pairs_joined, spelled_pairs}
+use Rattle.salt_value.specs.Spelling.{bytes, text, concatenation, pairs_spelling, spelled_pairs}
 use Rattle.salt_value.proofs.WriteLemmas.{well_formed_at, pair_at, joined-push, pairs-push, bytes-Map}
 use Rattle.salt_value.proofs.KeyLemmas.{pairs_most}
 use Rattle.salt_value.proofs.writing.+writing.Goals as goal
@@ -12,9 +12,9 @@ pub put-returns-in_ok-put_pairs-in-Map-clause-ok :
     goal.put-returns-in_ok-put_pairs-in-Map-clause-ok
 put-returns-in_ok-put_pairs-in-Map-clause-ok t c =
     c.in_ok-put_pairs-in-Map.ensures.ok
-    ∙ ap (λ o. o ++ (to_be_bytes w32 (length c.as_slice-in-Map.result.now) ++ pairs_joined (spelled_pairs c.as_slice-in-Map.result.now))) c.in_ok-push-in-Map.ensures.items
+    ∙ ap (λ o. o ++ (to_be_bytes w32 (length c.as_slice-in-Map.result.now) ++ pairs_spelling (spelled_pairs c.as_slice-in-Map.result.now))) c.in_ok-push-in-Map.ensures.items
     ∙ append_assoc c.args.out.now.items (6 ∷ []) _
-    ∙ ap (λ o. c.args.out.now.items ++ o) (ap (λ ps. 6 ∷ (to_be_bytes w32 (length ps) ++ pairs_joined (spelled_pairs ps))) c.as_slice-in-Map.ensures.value ∙ sym (bytes-Map c.in-Map.fields) ∙ ap bytes (sym c.in-Map.is))
+    ∙ ap (λ o. c.args.out.now.items ++ o) (ap (λ ps. 6 ∷ (to_be_bytes w32 (length ps) ++ pairs_spelling (spelled_pairs ps))) c.as_slice-in-Map.ensures.value ∙ sym (bytes-Map c.in-Map.fields) ∙ ap bytes (sym c.in-Map.is))
 
 pub put_items-put-requires : goal.put_items-put-requires
 put_items-put-requires t c =
@@ -27,10 +27,10 @@ put_items-loop-item-preserved t c =
     let xs = c.args.items.now in
     let i = c.loop-item.item-index in
     let v = c.item-item.result in
-    let more : joined (map bytes (take (i + 1) xs)) ≡ joined (map bytes (take i xs)) ++ bytes v =
-    ap (λ ys. joined (map bytes ys)) (take_more xs i v c.loop-item-test.true) ∙ joined-push (take i xs) (get_or xs i v) ∙ ap (λ w. joined (map bytes (take i xs)) ++ bytes w) (sym c.item-item.is) in
+    let more : concatenation (map bytes (take (i + 1) xs)) ≡ concatenation (map bytes (take i xs)) ++ bytes v =
+    ap (λ ys. concatenation (map bytes ys)) (take_more xs i v c.loop-item-test.true) ∙ joined-push (take i xs) (get_or xs i v) ∙ ap (λ w. concatenation (map bytes (take i xs)) ++ bytes w) (sym c.item-item.is) in
     c.in_ok-put.ensures.ok ∙ ap (λ o. o ++ bytes v) c.loop-item.invariant
-    ∙ append_assoc c.args.out.now.items (to_be_bytes w32 (length xs) ++ joined (map bytes (take i xs))) (bytes v)
+    ∙ append_assoc c.args.out.now.items (to_be_bytes w32 (length xs) ++ concatenation (map bytes (take i xs))) (bytes v)
     ∙ ap (λ o. c.args.out.now.items ++ (to_be_bytes w32 (length xs) ++ o)) (sym more)
 
 pub put_pairs-put_text-requires : goal.put_pairs-put_text-requires
@@ -47,9 +47,9 @@ put_pairs-loop-key-preserved t c =
     let xs = c.args.pairs.now in
     let i = c.loop-key.key-index in
     let v = c.loop-key-item.result in
-    let done = pairs_joined (spelled_pairs (take i xs)) in
-    let more : pairs_joined (spelled_pairs (take (i + 1) xs)) ≡ done ++ (text v.0 ++ bytes v.1) =
-    ap (λ ys. pairs_joined (spelled_pairs ys)) (take_more xs i v c.loop-key-test.true) ∙ pairs-push (take i xs) (get_or xs i v) ∙ ap (λ w. done ++ (text w.0 ++ bytes w.1)) (sym c.loop-key-item.is) in
+    let done = pairs_spelling (spelled_pairs (take i xs)) in
+    let more : pairs_spelling (spelled_pairs (take (i + 1) xs)) ≡ done ++ (text v.0 ++ bytes v.1) =
+    ap (λ ys. pairs_spelling (spelled_pairs ys)) (take_more xs i v c.loop-key-test.true) ∙ pairs-push (take i xs) (get_or xs i v) ∙ ap (λ w. done ++ (text w.0 ++ bytes w.1)) (sym c.loop-key-item.is) in
     c.in_ok-put.ensures.ok ∙ ap (λ o. o ++ bytes v.1) ((rw c.as_bytes.ensures at c.in_ok-put_text.ensures.ok) ∙ ap (λ o. o ++ text v.0) c.loop-key.invariant)
     ∙ append_assoc (c.args.out.now.items ++ (to_be_bytes w32 (length xs) ++ done)) (text v.0) (bytes v.1)
     ∙ append_assoc c.args.out.now.items (to_be_bytes w32 (length xs) ++ done) (text v.0 ++ bytes v.1)

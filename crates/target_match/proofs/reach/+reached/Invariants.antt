@@ -5,7 +5,7 @@ use denote.Param.Weighed.{most}
 use Rattle.salt_value.specs.declared.value.Value.{size-Value}
 use Rattle.salt_value.specs.Keys.{under}
 use Rattle.target_match.specs.Patterns.{starts}
-use Rattle.target_match.specs.Data.{reached, child_passes, reached_pairs}
+use Rattle.target_match.specs.Data.{reaches, child_passes, reaches_pairs}
 use Rattle.target_match.proofs.reach.+reached.Given as goal
 
 abbrev pub decreases-reached : goal.decreases-reached
@@ -23,11 +23,11 @@ decreases-child_reached l = 3 * most size-Value (map (λ p. p.1) l.pairs.now) + 
 abbrev pub invariant-any_reached-loop-item : goal.invariant-any_reached-loop-item
 invariant-any_reached-loop-item l = record {
   kept : matcher_pattern l.matcher ≡ matcher_pattern l.initial.matcher;
-  same : list_any (λ v. reached (starts (regex_source l.pattern)) v l.path) l.items ≡ list_any (λ v. reached (starts (regex_source l.pattern)) v l.path) (drop l.item-index l.items);
+  same : list_any (λ v. reaches (starts (regex_source l.pattern)) v l.path) l.items ≡ list_any (λ v. reaches (starts (regex_source l.pattern)) v l.path) (drop l.item-index l.items);
 }
 
 abbrev pub invariant-child_reached-loop-name : goal.invariant-child_reached-loop-name
 invariant-child_reached-loop-name l = record {
   kept : matcher_pattern l.matcher ≡ matcher_pattern l.initial.matcher;
-  same : child_passes (under l.key (reached_pairs (starts (regex_source l.pattern)) l.pairs)) l.path ≡ child_passes (under l.key (reached_pairs (starts (regex_source l.pattern)) (drop l.name-index l.pairs))) l.path;
+  same : child_passes (under l.key (reaches_pairs (starts (regex_source l.pattern)) l.pairs)) l.path ≡ child_passes (under l.key (reaches_pairs (starts (regex_source l.pattern)) (drop l.name-index l.pairs))) l.path;
 }

@@ -3,7 +3,7 @@ use Rattle.std.proofs.lemmas.List.{get_or_default}
 use Rattle.target_match.specs.Paths.{parts, pattern_of}
 use Rattle.target_match.specs.Patterns.{starts}
 use Rattle.target_match.specs.Holds.{pattern_holds}
-use Rattle.target_match.specs.Data.{map_reached, reached_pairs}
+use Rattle.target_match.specs.Data.{map_reaches, reaches_pairs}
 use Rattle.target_match.proofs.Meeting.{carried, pattern-holds}
 use Rattle.target_match.proofs.Asking as A
 use Rattle.target_match.proofs.leaf.DataPattern.holds.Goals as goal
@@ -14,8 +14,8 @@ returns-clause-ok c =
     let pattern = pattern_of (parts c.self.inside.text) in
     let source : c.index_mut-search.result.now ≡ pattern = c.index_mut-search.ensures.value ∙ get_or_default _ _ _ [] c.in_ok-place.ensures.within ∙ c.in_ok-place.ensures.same ∙ c.self.invariant.source in
     carried c.reaches.result _ _ c.reaches.ensures.ok
-    (ap (λ p. map_reached (starts p) (reached_pairs (starts p) fields) c.as_slice.result.now) source
-    ∙ ap (λ l. map_reached (starts pattern) (reached_pairs (starts pattern) fields) l) (c.as_slice.ensures.value ∙ c.self.invariant.path_is)
+    (ap (λ p. map_reaches (starts p) (reaches_pairs (starts p) fields) c.as_slice.result.now) source
+    ∙ ap (λ l. map_reaches (starts pattern) (reaches_pairs (starts pattern) fields) l) (c.as_slice.ensures.value ∙ c.self.invariant.path_is)
     ∙ sym (pattern-holds c.self.inside.text fields) ∙ ap (λ t. pattern_holds t fields) c.self.view_is)
 
 pub returns-clause-asked : goal.returns-clause-asked
