@@ -158,7 +158,7 @@ pub fn salt_main<S: Source, K: Sink>(
         PrintsScripts (S.left source.old) (K.held sink.old) (K.held sink.new) result.code }
     ensures sound { words.now ≡ codes "replay" ∷ [] → (script : Script) → IsScript script → StaysSound script }
     ensures replayed { words.now ≡ codes "replay" ∷ [] →
-        Replayed (S.left source.old) (S.left source.new) (S.faults source.old) (S.faults source.new)
+        HasReplayed (S.left source.old) (S.left source.new) (S.faults source.old) (S.faults source.new)
         (K.held sink.old) (K.held sink.new) (K.faults sink.old) (K.faults sink.new) result.code }
     ensures no_command { words.now ≢ codes "replay" ∷ [] → IsNoCommand (K.held sink.old) (K.held sink.new) (K.faults sink.old) (K.faults sink.new) result.code }
     ensures source { words.now ≢ codes "replay" ∷ [] → source.new ≡ source.old }
