@@ -1,7 +1,8 @@
 -- What is within the limits of a message.
-use Rattle.std.specs.Prelude.{◌<◌, All}
+use Rattle.std.specs.Prelude.{◌<◌, ◌&&◌, Bool, [], All}
 use Rattle.salt_value.specs.Word.{IsWord}
 use Rattle.salt_value.specs.WellFormed.{ValueFits}
+use Rattle.salt_value.specs.FitTest.{fits}
 use Rattle.salt_value.specs.declared.value.Value.TheVariants as v
 use Rattle.exec_functions.specs.declared.holdings.Holdings.{Holdings}
 use Rattle.exec_functions.specs.declared.holdings.Change.{Change}
@@ -16,6 +17,14 @@ pub record AreWithin (held : Holdings) : Type 0 where
   pub pillar : ValueFits (v.Map held.pillar)
   pub store : ValueFits (v.Map held.store)
   pub mine : ValueFits (v.Map held.mine)
+
+-- the same as a test
+abbrev pub are_within : Holdings → Bool
+are_within held = fits (v.Map held.grains) && (fits (v.Map held.pillar) && (fits (v.Map held.store) && fits (v.Map held.mine)))
+
+-- what a minion holds that was told nothing
+abbrev pub no_holdings : Holdings
+no_holdings = record { grains = []; pillar = []; store = []; mine = [] }
 
 -- the part that is another one from now on is a map within the limits of a value
 abbrev pub ChangeFits : Change → Type 0

@@ -51,8 +51,30 @@ pub struct Done {
 }
 
 impl Holdings {
-    ghost use Rattle.std.specs.Prelude.{◌≡◌, IfOk};
+    ghost use Rattle.std.specs.Prelude.{◌≡◌, ◌↔◌, IsTrue, IfOk};
     ghost use Rattle.exec_functions.specs.Exec.{with_change};
+    ghost use Rattle.exec_functions.specs.Limits.{AreWithin, are_within, no_holdings};
+
+    /// What a minion holds that was told nothing. It takes no memory.
+    pub fn none(alloc: Global) -> Holdings
+        ensures value { result ≡ no_holdings }
+        ensures fits { AreWithin result }
+    {
+        Holdings {
+            grains: Fields::new(alloc),
+            pillar: Fields::new(alloc),
+            store: Fields::new(alloc),
+            mine: Fields::new(alloc),
+        }
+    }
+
+    /// Whether each part is within the limits of a value, which are this project's own. It takes no memory.
+    pub fn fits(&self) -> bool
+        ensures ok { IsTrue result ↔ AreWithin self.now }
+        ensures exact { result ≡ are_within self.now }
+    {
+        self.grains.fits() && (self.pillar.fits() && (self.store.fits() && self.mine.fits()))
+    }
 
     /// Equal holdings in memory of their own.
     pub fn copy(&self, alloc: Global) -> Result<Holdings, AllocError>

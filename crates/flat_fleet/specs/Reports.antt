@@ -1,7 +1,8 @@
 -- The reports of the flat fleet.
-use Rattle.std.specs.Prelude.{ℕ, zero, suc, List, [], ◌∷◌, ◌++◌, filter_map, Option, None, Some, option_map, slice_get, if◌then◌else◌}
+use Rattle.std.specs.Prelude.{ℕ, ◌≡◌, map, zero, suc, List, [], ◌∷◌, ◌++◌, filter_map, Option, None, Some, option_map, slice_get, if◌then◌else◌}
 use Rattle.salt_value.specs.declared.outcome.Outcome.{Outcome}
 use Rattle.exec_functions.specs.Exec.{run, with_change}
+use Rattle.target_tree.specs.declared.target.Target.{Target}
 use Rattle.salt_wire.specs.declared.message.Job.{Job}
 use Rattle.salt_value.specs.declared.outcome.Row.{Row}
 pub use Rattle.minion_core.specs.Flat.{row_of}
@@ -22,6 +23,10 @@ report_of k fleet jobs (Some job) = record { jid = job.jid; fun = job.fun; rows 
 abbrev pub reports_to : ℕ → List FlatMinion → List Job → List FlatReport
 reports_to zero fleet jobs = []
 reports_to (suc k) fleet jobs = reports_to k fleet jobs ++ report_of k fleet jobs (slice_get jobs k)
+
+-- each of these targets is that of the job in its place, and there are as many of both
+abbrev pub AreBuiltOf : List Job → List Target → Type 0
+AreBuiltOf jobs targets = targets ≡ map (λ job. job.target) jobs
 
 -- ---- one step
 

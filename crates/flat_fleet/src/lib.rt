@@ -1,4 +1,4 @@
-//! The flat fleet: every job in order on every minion, without tree, message or disk. `flat_reports(alloc, &fleet, &jobs)?` gives the
+//! The flat fleet: every job in order on every minion, without tree, message or disk. `flat_reports(alloc, &fleet, &jobs, &matchers)?` gives the
 //! report of each job.
 #![tactic(auto)]
 

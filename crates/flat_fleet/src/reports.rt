@@ -1,39 +1,32 @@
 //! Every job in order on every minion.
 ghost use Rattle.std.specs.Prelude.{◌≡◌, ◌++◌, [], map, length, IfOk, OnOk};
 ghost use Rattle.std.specs.List.{cons_option};
-ghost use Rattle.exec_functions.specs.Exec as exec;
-ghost use Rattle.minion_core.specs.Flat as flat;
 ghost use Rattle.flat_fleet.specs.Reports as spec;
 
 use crate::{FlatMinion, FlatReport};
-use exec_functions::{Change, Holdings, run};
-use minion_core::does_hold;
+use exec_functions::run;
 use salt_value::{MinionId, Outcome, Row, Rows};
 use salt_wire::Job;
 use std::alloc::{AllocError, Global};
-
-// What is held after a change.
-fn put_change(held: &mut Holdings, change: Change)
-    ensures { held.new ≡ exec.with_change change held.old }
-{
-    match change {
-        Change::Nothing => {}
-        Change::Grains(fields) => held.grains = fields,
-        Change::Store(fields) => held.store = fields,
-        Change::Mine(fields) => held.mine = fields,
-    }
-}
+use target_match::Matcher;
 
 // One job on one minion.
-fn step(alloc: Global, job: &Job, minion: &mut FlatMinion) -> Result<Option<Outcome>, AllocError>
+#[tactic(auto, unfolding(minion_core::specs::Flat::does_hold))]
+fn step(
+    alloc: Global,
+    job: &Job,
+    matcher: &Matcher,
+    minion: &mut FlatMinion,
+) -> Result<Option<Outcome>, AllocError>
+    requires { matcher.now ≡ job.now.target }
     ensures outcome { IfOk result (λ outcome. outcome ≡ spec.outcome_of job.now minion.old) }
     ensures minion_after { OnOk result (minion.new ≡ spec.minion_after job.now minion.old) }
 {
-    if !does_hold(alloc, job, &minion.id, &minion.held)? {
+    if !matcher.holds(&minion.id, &minion.held.grains, &minion.held.pillar)? {
         return Ok(None);
     }
     let ran = run(alloc, &job.fun, job.args.as_slice(), &minion.held)?;
-    put_change(&mut minion.held, ran.change);
+    minion.held.apply(ran.change);
     Ok(Some(ran.outcome))
 }
 
@@ -48,7 +41,13 @@ fn push_row(rows: &mut Rows, id: MinionId, outcome: Option<Outcome>) -> Result<(
 }
 
 // One job on each minion.
-fn one_job(alloc: Global, job: &Job, minions: &mut [FlatMinion]) -> Result<Rows, AllocError>
+fn one_job(
+    alloc: Global,
+    job: &Job,
+    matcher: &Matcher,
+    minions: &mut [FlatMinion],
+) -> Result<Rows, AllocError>
+    requires { matcher.now ≡ job.now.target }
     ensures rows { IfOk result (λ rows. rows ≡ spec.rows_after job.now minions.old) }
     ensures minion_after { OnOk result (minions.new ≡ map (spec.minion_after job.now) minions.old) }
 {
@@ -56,7 +55,7 @@ fn one_job(alloc: Global, job: &Job, minions: &mut [FlatMinion]) -> Result<Rows,
     for i in 0..minions.len() {
         let minion = &mut minions[i];
         let id = minion.id;
-        let outcome = step(alloc, job, minion)?;
+        let outcome = step(alloc, job, matcher, minion)?;
         push_row(&mut rows, id, outcome)?;
     }
     Ok(rows)
@@ -67,12 +66,7 @@ fn copy_minion(alloc: Global, minion: &FlatMinion) -> Result<FlatMinion, AllocEr
 {
     Ok(FlatMinion {
         id: minion.id,
-        held: Holdings {
-            grains: minion.held.grains.copy(alloc)?,
-            pillar: minion.held.pillar.copy(alloc)?,
-            store: minion.held.store.copy(alloc)?,
-            mine: minion.held.mine.copy(alloc)?,
-        },
+        held: minion.held.copy(alloc)?,
     })
 }
 
@@ -91,13 +85,15 @@ fn copy_fleet(alloc: Global, fleet: &[FlatMinion]) -> Result<Vec<FlatMinion>, Al
 fn all_jobs(
     alloc: Global,
     jobs: &[Job],
+    matchers: &[Matcher],
     minions: &mut [FlatMinion],
 ) -> Result<Vec<FlatReport>, AllocError>
+    requires { spec.AreBuiltOf jobs.now matchers.now }
     ensures { IfOk result (λ reports. reports.items ≡ spec.reports_to (length jobs.now) minions.old jobs.now) }
 {
     let mut reports = Vec::new(alloc);
-    for job in jobs {
-        let rows = one_job(alloc, job, minions)?;
+    for (k, job) in jobs.iter().enumerate() {
+        let rows = one_job(alloc, job, &matchers[k], minions)?;
         let fun = job.fun.copy()?;
         reports.push(FlatReport {
             jid: job.jid,
@@ -108,15 +104,17 @@ fn all_jobs(
     Ok(reports)
 }
 
-/// The report of each job, in order: job by job, each minion that the target holds for runs it on what it holds then. There is no tree,
-/// no message and no disk here: every report of the program is measured by this one.
+/// The report of each job, in order: job by job, each minion that the target holds for runs it on what it holds then. Each matcher is
+/// that of the job in its place. There is no tree, no message and no disk here: every report of the program is measured by this one.
 pub fn flat_reports(
     alloc: Global,
     fleet: &[FlatMinion],
     jobs: &[Job],
+    matchers: &[Matcher],
 ) -> Result<Vec<FlatReport>, AllocError>
+    requires { spec.AreBuiltOf jobs.now matchers.now }
     ensures { IfOk result (λ reports. reports.items ≡ spec.reports_to (length jobs.now) fleet.now jobs.now) }
 {
     let mut minions = copy_fleet(alloc, fleet)?;
-    all_jobs(alloc, jobs, minions.as_mut_slice())
+    all_jobs(alloc, jobs, matchers, minions.as_mut_slice())
 }

@@ -1,20 +1,33 @@
 -- What a fleet says.
-use Rattle.std.specs.Prelude.{ℕ, ◌≤◌, List}
-use Rattle.fleet_config.specs.Limits.{most_jobs}
+use Rattle.std.specs.Prelude.{ℕ, ◌≤◌, List, []}
+use Rattle.target_tree.specs.Nodegroups.{Group}
+use Rattle.fleet_config.specs.Limits.{most_jobs, least_journal_limit, most_journal_limit}
 use Rattle.fleet_config.specs.Tree.{Tree, IsTree, flat_tree}
 
--- What a fleet says: its tree, and the greatest number of jobs that its top holds. Nodegroups, rules of reactions and first holdings
--- come in as further fields.
+-- What a fleet says: its tree, its nodegroups, the greatest number of jobs that its top holds, and the bytes of the longest part of a
+-- journal. Rules of reactions come in as a further field.
 pub record FleetConfig : Type 0 where
   pub tree : Tree
+  pub groups : List Group
   pub max_jobs : ℕ
+  pub journal_limit : ℕ
+
+-- numbers that a fleet may set as its limits: of jobs, and of the bytes of a journal's part
+pub record AreLimits (max_jobs journal_limit : ℕ) : Type 0 where
+  pub some_jobs : 1 ≤ max_jobs
+  pub few_jobs : max_jobs ≤ most_jobs
+  pub least : least_journal_limit ≤ journal_limit
+  pub most : journal_limit ≤ most_journal_limit
 
 -- a fleet with a node, within the limits
 pub record IsFleet (f : FleetConfig) : Type 0 where
   pub tree : IsTree f.tree
-  pub some_jobs : 1 ≤ f.max_jobs
-  pub jobs : f.max_jobs ≤ most_jobs
+  pub limits : AreLimits f.max_jobs f.journal_limit
 
--- a top with these minions under it, and as many jobs as a fleet may have
+-- a fleet of this tree without a nodegroup, whose limits are the greatest
+abbrev pub fleet_with : Tree → FleetConfig
+fleet_with t = record { tree = t; groups = []; max_jobs = most_jobs; journal_limit = most_journal_limit }
+
+-- a top with these minions under it, no nodegroup, and the greatest limits
 abbrev pub flat_fleet : List ℕ → List (List ℕ) → FleetConfig
-flat_fleet top ids = record { tree = flat_tree top ids; max_jobs = most_jobs }
+flat_fleet top ids = fleet_with (flat_tree top ids)

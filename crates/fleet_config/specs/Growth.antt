@@ -5,7 +5,8 @@ use Rattle.fleet_config.specs.declared.fleet.Role.TheVariants as role
 use Rattle.fleet_config.specs.declared.fleet.Member.{Member}
 use Rattle.fleet_config.specs.declared.node.FleetNode.{FleetNode}
 use Rattle.fleet_config.specs.declared.node.NodeFault.{NodeFault}
-use Rattle.fleet_config.specs.declared.node.NodeFault.TheVariants.{NoTop, TwoTops, TwiceId, NoParent, TooMany, TooDeep}
+use Rattle.fleet_config.specs.declared.node.NodeFault.TheVariants.{NoTop, TwoTops, TwiceId, NoParent, TooMany, TooDeep, TooLarge}
+use Rattle.exec_functions.specs.Limits.{are_within}
 use Rattle.fleet_config.specs.Limits.{most_minions, most_syndics, most_levels}
 use Rattle.fleet_config.specs.Causes.{first_cause}
 use Rattle.fleet_config.specs.Tree.{Tree, is_top, is_minion, minion_count, syndic_count, level}
@@ -13,7 +14,7 @@ use Rattle.fleet_config.specs.Fleet.{FleetConfig}
 
 -- the node as a fleet has it: the parent of the top is the top
 abbrev pub member_of : FleetNode → Member
-member_of node = record { id = node.id; role = node.role; parent = unwrap_or node.parent 0 }
+member_of node = record { id = node.id; role = node.role; parent = unwrap_or node.parent 0; port = node.port; held = node.held }
 
 -- the fleet with a node more, the last one
 abbrev pub with_node : FleetNode → FleetConfig → FleetConfig
@@ -47,7 +48,8 @@ node_tests t node =
     ∷ (is_none (position (λ m. bytes_eq m.id node.id) t), TwiceId)
     ∷ (is_placed t node.role node.parent, NoParent)
     ∷ (has_room t node.role, TooMany)
-    ∷ (has_level t node.parent, TooDeep) ∷ []
+    ∷ (has_level t node.parent, TooDeep)
+    ∷ (are_within node.held, TooLarge) ∷ []
 
 -- why a node is not added, if it is not
 abbrev pub node_fault : Tree → FleetNode → Option NodeFault

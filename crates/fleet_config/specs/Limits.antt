@@ -20,3 +20,11 @@ most_levels = 8
 -- the greatest number of jobs that a fleet may say that its top holds; a job's number is below it
 abbrev pub most_jobs : ℕ
 most_jobs = 65535
+
+-- the bytes of the shortest part of a journal that a fleet may set as its limit
+abbrev pub least_journal_limit : ℕ
+least_journal_limit = 64
+
+-- the bytes of the longest one
+abbrev pub most_journal_limit : ℕ
+most_journal_limit = 1073741824

@@ -1,19 +1,15 @@
 -- What a fleet keeps beside its nodes.
-use Rattle.std.specs.Prelude.{ℕ, ◌≡◌, ◌<◌, ◌≤◌, List, length, position, bytes_eq}
+use Rattle.std.specs.Prelude.{ℕ, ◌≡◌, ◌<◌, List, length, position, bytes_eq}
 use Rattle.indexmap.specs.IndexMap.{IndexMap, get}
-use Rattle.fleet_config.specs.Limits.{most_jobs}
 use Rattle.fleet_config.specs.Tree.{Tree, IsTree, minion_count, syndic_count}
 
 -- each id is found at its place
 abbrev pub HasPlaces : {S : Type 0} → Tree → IndexMap (List ℕ) ℕ S → Type 0
 HasPlaces t places = (id : List ℕ) → get bytes_eq places id ≡ position (λ m. bytes_eq m.id id) t
 
--- The nodes are none or a tree, the index and the counts are theirs, and the number of jobs is within its limits. No public contract
--- cites it.
-pub record IsIndexed {S : Type 0} (t : Tree) (places : IndexMap (List ℕ) ℕ S) (workers middles max_jobs : ℕ) : Type 0 where
+-- The nodes are none or a tree, and the index and the counts are theirs. No public contract cites it.
+pub record IsIndexed {S : Type 0} (t : Tree) (places : IndexMap (List ℕ) ℕ S) (workers middles : ℕ) : Type 0 where
   pub tree : 0 < length t → IsTree t
   pub found : HasPlaces t places
   pub minions : workers ≡ minion_count t
   pub syndics : middles ≡ syndic_count t
-  pub some_jobs : 1 ≤ max_jobs
-  pub jobs : max_jobs ≤ most_jobs

@@ -1,6 +1,8 @@
 -- The fleet as a tree, given by each node's parent. Node 0 is the top; a node's place in the list is its number.
-use Rattle.std.specs.Prelude.{ℕ, zero, suc, ◌≡◌, ◌≢◌, ◌<◌, ◌≤◌, ◌==◌, nat_lt, ◌&&◌, ◌||◌, Bool, true, false, List, [], ◌∷◌, ◌++◌, ◌+◌, length, filter, map, position, unwrap_or, bytes_eq, if◌then◌else◌}
+use Rattle.std.specs.Prelude.{ℕ, zero, suc, ◌≡◌, ◌≢◌, ◌<◌, ◌≤◌, ◌==◌, nat_lt, ◌&&◌, ◌||◌, Bool, true, false, List, [], ◌∷◌, ◌++◌, ◌+◌, length, filter, map, position, unwrap_or, bytes_eq, All, if◌then◌else◌}
 use Rattle.std.specs.List.{slice_index_or}
+use Rattle.exec_functions.specs.declared.holdings.Holdings.{Holdings}
+use Rattle.exec_functions.specs.Limits.{AreWithin, no_holdings}
 use Rattle.fleet_config.specs.Limits.{most_minions, most_syndics, most_levels}
 use Rattle.fleet_config.specs.declared.fleet.Member.{Member}
 use Rattle.fleet_config.specs.declared.fleet.Role.{Role}
@@ -12,7 +14,7 @@ Tree = List Member
 
 -- the node at a place, and a top without an id past the end
 abbrev pub member : Tree → ℕ → Member
-member t i = slice_index_or t i (record { id = []; role = role.Top; parent = 0 })
+member t i = slice_index_or t i (record { id = []; role = role.Top; parent = 0; port = 0; held = no_holdings })
 
 -- the id of a node
 abbrev pub id_of : Tree → ℕ → List ℕ
@@ -21,6 +23,10 @@ id_of t i = (member t i).id
 -- the place of a node's parent; that of the top is the top
 abbrev pub parent_of : Tree → ℕ → ℕ
 parent_of t i = (member t i).parent
+
+-- what the node at a place holds at first
+abbrev pub held_of : Tree → ℕ → Holdings
+held_of t i = (member t i).held
 
 -- a minion runs jobs, and every other node is a master
 abbrev pub runs_jobs : Role → Bool
@@ -81,6 +87,7 @@ pub record IsTree (t : Tree) : Type 0 where
   pub few_minions : minion_count t ≤ most_minions
   pub few_syndics : syndic_count t ≤ most_syndics
   pub few_levels : (i : ℕ) → i < length t → level t i ≤ most_levels
+  pub held_fits : All (λ m. AreWithin m.held) t
 
 -- The child of p through which node m lies, or 0: a walk up from m, of so many steps.
 unfoldable pub branch_by : Tree → ℕ → ℕ → ℕ → ℕ
@@ -104,10 +111,10 @@ up_to (suc n) = up_to n ++ n ∷ []
 abbrev pub minions : Tree → ℕ → List ℕ
 minions t a = filter (λ m. is_minion t m && is_within t a m) (up_to (length t))
 
--- a minion right under the top
-abbrev pub minion_of : List ℕ → Member
-minion_of id = record { id = id; role = role.Minion; parent = 0 }
+-- a node right under the top, or the top itself, without a port, which holds nothing at first
+abbrev pub plain_member : Role → List ℕ → Member
+plain_member kind id = record { id = id; role = kind; parent = 0; port = 0; held = no_holdings }
 
--- a top with these minions under it
+-- a top with these minions under it, which hold nothing at first
 abbrev pub flat_tree : List ℕ → List (List ℕ) → Tree
-flat_tree top ids = record { id = top; role = role.Top; parent = 0 } ∷ map minion_of ids
+flat_tree top ids = plain_member role.Top top ∷ map (plain_member role.Minion) ids

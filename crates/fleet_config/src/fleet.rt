@@ -1,9 +1,12 @@
 //! A fleet, and the calls on it.
-ghost use Rattle.std.specs.Prelude.{◌≡◌, ◌≢◌, ◌∷◌, [], ◌++◌, ◌<◌, ◌≤◌, ℕ, List, cond, All, Some, None, length, map, position, IfOk, IfErr, IfSome, OnOk, OnErr, if◌then◌else◌};
+ghost use Rattle.std.specs.Prelude.{◌≡◌, ◌≢◌, ◌∷◌, [], ◌++◌, ◌<◌, ◌≤◌, ℕ, List, cond, All, Some, None, length, map, position, IfOk, IfErr, IfSome, OnOk, OnErr, Err, ◌↔◌, IsTrue, if◌then◌else◌};
 ghost use Rattle.fleet_config.specs.Places.{HasPlaces};
 ghost use Rattle.std.specs.List.{IsDistinct};
 ghost use Rattle.std.specs.Str.{bytes_eq};
-ghost use Rattle.fleet_config.specs.Limits.{most_minions, most_nodes, most_jobs};
+ghost use Rattle.fleet_config.specs.Limits.{most_minions, most_nodes};
+ghost use Rattle.exec_functions.specs.Limits.{AreWithin};
+ghost use Rattle.target_tree.specs.Nodegroups.{is_named};
+ghost use Rattle.target_tree.specs.declared.groups.GroupFault.TheVariants as GroupFault;
 ghost use Rattle.fleet_config.specs.Tree as tree;
 ghost use Rattle.fleet_config.specs.Tree.{IsTree};
 ghost use Rattle.fleet_config.specs.Growth as growth;
@@ -11,10 +14,12 @@ ghost use Rattle.fleet_config.specs.Causes as causes;
 ghost use Rattle.indexmap.specs.IndexMap.{get};
 
 use crate::{FleetNode, NodeFault};
+use exec_functions::Holdings;
 use indexmap::IndexMap;
-use salt_value::{Ids, MinionId, NodeId};
+use salt_value::{Ids, MinionId, NodeId, Text};
 use std::alloc::{AllocError, Global};
 use std::marker::Model;
+use target_tree::{GroupFault, Groups};
 
 /// The greatest number of minions of a fleet. The limits are this project's own.
 pub const MOST_MINIONS: u32 = 4096;
@@ -39,23 +44,35 @@ pub enum Role {
     Minion,
 }
 
+/// The bytes of the shortest part of a journal that a fleet may set as its limit.
+pub const LEAST_JOURNAL_LIMIT: u64 = 64;
+
+/// The bytes of the longest one.
+pub const MOST_JOURNAL_LIMIT: u64 = 1_073_741_824;
+
 /// One node of a fleet. The parent of the top is the top itself.
-#[derive(Clone, Copy, Debug)]
+#[derive(Drop)]
 pub struct Member {
     pub id: MinionId,
     pub role: Role,
     pub parent: NodeId,
+    /// Where a master listens; 0 where nothing is said of it.
+    pub port: u16,
+    /// What a minion holds at first.
+    pub held: Holdings,
 }
 
 /// A fleet: a top, and syndics and minions with distinct ids, each under a master that stands before it in the list; at first no node
-/// at all. Beside them the greatest number of jobs that the top holds.
-#[derive(Debug, Drop)]
+/// at all. Beside them the nodegroups, the greatest number of jobs that the top holds, and the bytes of the longest part of a journal.
+#[derive(Drop)]
 pub struct Fleet {
     members: Vec<Member>,
     places: IndexMap<MinionId, NodeId>,
     minions: u32,
     syndics: u32,
+    groups: Groups,
     max_jobs: u32,
+    journal_limit: u64,
 }
 
 impl Model for Fleet {
@@ -65,32 +82,40 @@ impl Model for Fleet {
 
     ghost use Rattle.fleet_config.specs.Places.{IsIndexed};
 
-    ghost view = { λ f. record { tree = f.members.items; max_jobs = f.max_jobs } };
+    ghost use Rattle.fleet_config.specs.Fleet.{AreLimits};
+    ghost use Rattle.salt_value.specs.contracts.value.Value as value;
+    ghost use Rattle.std.specs.Coded.{codes};
 
-    ghost invariant = { λ f. IsIndexed f.members.items f.places f.minions f.syndics f.max_jobs };
+    ghost coded = { Prim.hlevel (codes, value.the_row.coded) };
+
+    ghost view = { λ f. record { tree = f.members.items; groups = f.groups; max_jobs = f.max_jobs; journal_limit = f.journal_limit } };
+
+    ghost invariant = { λ f. IsIndexed f.members.items f.places f.minions f.syndics × AreLimits f.max_jobs f.journal_limit };
 }
 
 impl Fleet {
     ghost use Rattle.std.specs.Prelude.{◌==◌};
     ghost use Rattle.fleet_config.specs.Tree.{member};
-    ghost use Rattle.fleet_config.specs.Fleet.{IsFleet, flat_fleet};
+    ghost use Rattle.fleet_config.specs.Fleet.{IsFleet, AreLimits, fleet_with, flat_fleet};
     ghost use Rattle.fleet_config.specs.Growth.{with_node, node_fault};
     ghost use Rattle.fleet_config.specs.declared.node.NodeFault.TheVariants.{NoMemory};
 
-    /// A fleet without a node, whose top may hold 65,535 jobs.
+    /// A fleet without a node or a nodegroup, whose top may hold 65,535 jobs and whose journals' parts may have 1,073,741,824 bytes.
     pub fn new(alloc: Global) -> Fleet
-        ensures value { result ≡ record { tree = []; max_jobs = most_jobs } }
+        ensures value { result ≡ fleet_with [] }
     {
         Fleet {
             members: Vec::new(alloc),
             places: IndexMap::new(alloc),
             minions: 0,
             syndics: 0,
+            groups: Groups::new(alloc),
             max_jobs: MOST_JOBS,
+            journal_limit: MOST_JOURNAL_LIMIT,
         }
     }
 
-    /// A top with these minions under it. At most 4,096 minions, and no id twice.
+    /// A top with these minions under it, which hold nothing at first. At most 4,096 minions, and no id twice.
     pub fn flat(alloc: Global, top: MinionId, minions: Ids) -> Result<Fleet, AllocError>
         requires distinct { IsDistinct bytes_eq (top ∷ minions) }
         requires few { length minions ≤ most_minions }
@@ -103,12 +128,15 @@ impl Fleet {
             places,
             minions: minions.len() as u32,
             syndics: 0,
+            groups: Groups::new(alloc),
             max_jobs: MOST_JOBS,
+            journal_limit: MOST_JOURNAL_LIMIT,
         })
     }
 
     /// Adds a node, and answers its place, the last one. The first node is the top, and each other one stands under a master that is
-    /// there: a fleet has at most 4,096 minions and 256 syndics, on at most 8 levels. After an error the fleet is as before.
+    /// there: a fleet has at most 4,096 minions and 256 syndics, on at most 8 levels, and what a node holds is within the limits of a
+    /// value. After an error the fleet is as before.
     pub fn add(&mut self, node: FleetNode) -> Result<NodeId, NodeFault>
         ensures ok { IfOk result (λ place. place ≡ length self.old.tree) }
         ensures fleet { OnOk result (self.new ≡ with_node node self.old) }
@@ -120,28 +148,53 @@ impl Fleet {
             return Err(fault);
         }
         let place = NodeId::new(self.count());
-        push_node(&mut self.members, &mut self.places, member_of(&node), place)?;
-        self.minions += one_where(runs_jobs(node.role));
-        self.syndics += one_where(is_syndic(node.role));
+        let role = node.role;
+        push_node(&mut self.members, &mut self.places, member_of(node), place)?;
+        self.minions += one_where(runs_jobs(role));
+        self.syndics += one_where(is_syndic(role));
         Ok(place)
     }
 
-    /// Says how many jobs the top holds at most, 1 to 65,535.
-    pub fn limit_jobs(&mut self, max_jobs: u32)
-        requires some { 1 ≤ max_jobs }
-        requires few { max_jobs ≤ most_jobs }
-        ensures value { self.new ≡ record self.old { max_jobs = max_jobs } }
+    /// Sets how many jobs the top holds at most, 1 to 65,535, and how many bytes a part of a journal has at most, 64 to 1,073,741,824.
+    pub fn limits(&mut self, max_jobs: u32, journal_limit: u64)
+        requires { AreLimits max_jobs journal_limit }
+        ensures value { self.new ≡ record self.old { max_jobs = max_jobs; journal_limit = journal_limit } }
     {
         self.max_jobs = max_jobs;
+        self.journal_limit = journal_limit;
+    }
+
+    /// Adds a nodegroup after the others, whose text is read where a target names it. `Twice` comes exactly where the name is there.
+    /// After an error the fleet is as before.
+    pub fn add_group(&mut self, name: MinionId, text: Text) -> Result<(), GroupFault>
+        ensures groups { OnOk result (self.new ≡ record self.old { groups = self.old.groups ++ (name, text) ∷ [] }) }
+        ensures err { OnErr result (self.new ≡ self.old) }
+        ensures twice { (result ≡ Err GroupFault.Twice) ↔ IsTrue (is_named self.old.groups name) }
+    {
+        self.groups.add(name, text)
+    }
+
+    /// The nodegroups.
+    pub fn groups(&self) -> &Groups
+        ensures value { result.now ≡ self.now.groups }
+    {
+        &self.groups
     }
 
     /// The greatest number of jobs that the top holds.
     pub fn max_jobs(&self) -> u32
         ensures value { result ≡ self.now.max_jobs }
-        ensures some { 1 ≤ self.now.max_jobs }
-        ensures few { self.now.max_jobs ≤ most_jobs }
+        ensures limits { AreLimits self.now.max_jobs self.now.journal_limit }
     {
         self.max_jobs
+    }
+
+    /// How many bytes a part of a journal has at most.
+    pub fn journal_limit(&self) -> u64
+        ensures value { result ≡ self.now.journal_limit }
+        ensures limits { AreLimits self.now.max_jobs self.now.journal_limit }
+    {
+        self.journal_limit
     }
 
     /// The number of nodes. A fleet with a node is a tree.
@@ -179,6 +232,23 @@ impl Fleet {
         ensures value { result ≡ (member self.now.tree node).role }
     {
         self.members[node.index()].role
+    }
+
+    /// Where a node of this fleet listens, 0 where nothing was said of it.
+    pub fn port(&self, node: NodeId) -> u16
+        requires within { node < length self.now.tree }
+        ensures value { result ≡ (member self.now.tree node).port }
+    {
+        self.members[node.index()].port
+    }
+
+    /// What a node of this fleet holds at first, each part within the limits of a value.
+    pub fn held(&self, node: NodeId) -> &Holdings
+        requires within { node < length self.now.tree }
+        ensures value { result.now ≡ tree.held_of self.now.tree node }
+        ensures fits { AreWithin result.now }
+    {
+        &self.members[node.index()].held
     }
 
     /// The bytes of a node's id, none past the end.
@@ -282,6 +352,7 @@ impl Fleet {
             (self.is_placed(node.role, node.parent), NodeFault::NoParent),
             (self.has_room(node.role), NodeFault::TooMany),
             (self.has_level(node.parent), NodeFault::TooDeep),
+            (node.held.fits(), NodeFault::TooLarge),
         ])
     }
 
@@ -380,13 +451,29 @@ fn is_syndic(role: Role) -> bool
 }
 
 // The node as a fleet has it: the parent of the top is the top.
-fn member_of(node: &FleetNode) -> Member
-    ensures value { result ≡ growth.member_of node.now }
+fn member_of(node: FleetNode) -> Member
+    ensures value { result ≡ growth.member_of node }
 {
     Member {
         id: node.id,
         role: node.role,
         parent: node.parent.unwrap_or(NodeId::TOP),
+        port: node.port,
+        held: node.held,
+    }
+}
+
+// A node right under the top, or the top itself, without a port, which holds nothing.
+fn plain_member(alloc: Global, role: Role, id: MinionId) -> Member
+    ensures value { result ≡ tree.plain_member role id }
+    ensures fits { AreWithin result.held }
+{
+    Member {
+        id,
+        role,
+        parent: NodeId::TOP,
+        port: 0,
+        held: Holdings::none(alloc),
     }
 }
 
@@ -448,17 +535,9 @@ fn flat_members(
     ensures ok { IfOk result (λ members. members.items ≡ tree.flat_tree top minions.now) }
 {
     let mut members = Vec::new(alloc);
-    members.push(Member {
-        id: top,
-        role: Role::Top,
-        parent: NodeId::TOP,
-    })?;
+    members.push(plain_member(alloc, Role::Top, top))?;
     for id in minions {
-        members.push(Member {
-            id: *id,
-            role: Role::Minion,
-            parent: NodeId::TOP,
-        })?;
+        members.push(plain_member(alloc, Role::Minion, *id))?;
     }
     Ok(members)
 }

@@ -1,15 +1,20 @@
 //! A node that is added to a fleet, and why it may be refused.
 use crate::Role;
+use exec_functions::Holdings;
 use salt_value::{MinionId, NodeId};
 use std::alloc::AllocError;
 use thiserror::Error;
 
 /// A node to add to a fleet. A top has no parent, every other node one.
-#[derive(Clone, Copy, Debug)]
+#[derive(Drop)]
 pub struct FleetNode {
     pub id: MinionId,
     pub role: Role,
     pub parent: Option<NodeId>,
+    /// Where a master listens; 0 where it says nothing of it.
+    pub port: u16,
+    /// What a minion holds at first. Each part is a map within the limits of a value.
+    pub held: Holdings,
 }
 
 /// Why a node is not added. The causes after `NoMemory` stand in the order in which they are looked for.
@@ -35,6 +40,9 @@ pub enum NodeFault {
     /// The parent is on the eighth level.
     #[error("the node lies too deep")]
     TooDeep,
+    /// A part of what the node holds is over the limits of a value: 32 levels, and 65,536 bytes.
+    #[error("the node holds too much")]
+    TooLarge,
 }
 
 impl From<AllocError> for NodeFault {

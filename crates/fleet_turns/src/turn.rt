@@ -1,15 +1,16 @@
 //! One turn.
-use node_core::Glob;
-use salt_value::{Items, Jid, NodeId, Word};
+use salt_value::{Items, Jid, NodeId, Text, Word};
+use target_tree::Kind;
 
 /// One line of a schedule.
 #[derive(Drop)]
 pub enum Turn {
-    /// Publishes a job at the top, a function with its arguments for the minions whose ids match the glob, at a moment in microseconds
-    /// since 1970-01-01 UTC.
+    /// Publishes a job at the top, a function with its arguments for a target by its text of this kind, at a moment in microseconds since
+    /// 1970-01-01 UTC.
     Publish {
         moment: u64,
-        tgt: Glob,
+        kind: Kind,
+        tgt: Text,
         fun: Word,
         args: Items,
     },

@@ -1,8 +1,6 @@
 -- What a minion makes of a job, and the flat minion: a fold over the list of jobs that knows no tree and no message.
 use Rattle.std.specs.Prelude.{ℕ, nat_lt, ◌&&◌, ◌+◌, ◌==◌, Bool, true, false, not, filter, flat_map, map, Option, None, Some, is_none, option_map, slice_get, length, ◌-◌, List, [], ◌∷◌, ◌++◌, if◌then◌else◌}
-use Rattle.std.specs.List.{list_all}
-use Rattle.target_tree.specs.declared.target.Target.{Target}
-use Rattle.target_match.specs.Holds.{holds, patterns}
+use Rattle.target_match.specs.Holds.{holds}
 use Rattle.salt_value.specs.declared.outcome.Outcome.{Outcome}
 use Rattle.salt_value.specs.declared.outcome.Row.{Row}
 use Rattle.exec_functions.specs.declared.holdings.Holdings.{Holdings}
@@ -19,17 +17,9 @@ use Rattle.salt_wire.specs.declared.deed.Changed.{Changed}
 use Rattle.salt_wire.specs.declared.deed.Deed.{Deed}
 use Rattle.salt_wire.specs.declared.deed.Deed.TheVariants.{Publish, Up, Fire, React, Intake, Boot, Done}
 
--- what a minion holds that was told nothing
-abbrev pub nothing_held : Holdings
-nothing_held = record { grains = []; pillar = []; store = []; mine = [] }
-
--- no leaf of the target has a pattern
-abbrev pub has_no_pattern : Target → Bool
-has_no_pattern target = list_all is_none (patterns target)
-
--- The target of a job holds for the minion with this id, by what it holds now. Targets with patterns hold for no minion so far.
+-- the target of a job holds for the minion with this id, by what it holds now
 unfoldable pub does_hold : Job → List ℕ → Holdings → Bool
-does_hold job id held = if has_no_pattern job.target then holds job.target id held.grains held.pillar else false
+does_hold job id held = holds job.target id held.grains held.pillar
 
 -- the entry of a note, after the change
 abbrev pub entry_of : ℕ → Holdings → Note → Entry

@@ -1,3 +1,4 @@
 pub mod Flat
+pub mod Faults
 pub mod Core
 pub mod Limits

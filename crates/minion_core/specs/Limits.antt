@@ -1,5 +1,5 @@
 -- What a minion records and keeps is within the limits of messages, and where there is room for a record.
-use Rattle.std.specs.Prelude.{◌<◌, ◌+◌, ◌^◌, Option, None, Some, All}
+use Rattle.std.specs.Prelude.{◌<◌, ◌≤◌, ◌+◌, ◌^◌, length, Option, None, Some, All}
 use Rattle.salt_value.specs.WellFormed.{ValueFits}
 use Rattle.salt_value.specs.declared.value.Value.TheVariants as v
 use Rattle.exec_functions.specs.Limits.{AreWithin}
@@ -7,6 +7,7 @@ use Rattle.salt_wire.specs.Limits.{EntryFits}
 use Rattle.salt_wire.specs.declared.deed.Changed.{Changed}
 use Rattle.salt_wire.specs.declared.deed.Deed.{Deed}
 use Rattle.salt_wire.specs.declared.deed.Deed.TheVariants.{Boot, Done}
+use Rattle.minion_core.specs.Flat.{entries_in}
 use Rattle.minion_core.specs.Core.{CoreState}
 
 -- each part that is recorded as changed is within the limits of a value
@@ -18,6 +19,10 @@ ChangedFits (Some new) = ValueFits (v.Map new.grains) × ValueFits (v.Map new.st
 abbrev pub DeedFits : Deed → Type 0
 DeedFits (Done seq changed entries) = ChangedFits changed × All EntryFits entries
 DeedFits other = Unit {0}
+
+-- a record has at most two entries
+abbrev pub HasFewEntries : Deed → Type 0
+HasFewEntries deed = length (entries_in deed) ≤ 2
 
 -- what a minion holds is within the limits of values, and its entries are within those of messages
 pub record StateFits (s : CoreState) : Type 0 where

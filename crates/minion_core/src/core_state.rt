@@ -6,6 +6,7 @@ ghost use Rattle.salt_wire.specs.declared.deed.Deed.TheVariants.{Boot};
 ghost use Rattle.minion_core.specs.Flat as flat;
 ghost use Rattle.exec_functions.specs.Limits.{AreWithin};
 
+use crate::RunFault;
 use crate::running::job_record;
 use exec_functions::Holdings;
 use salt_value::{Fields, MinionId};
@@ -40,7 +41,8 @@ impl Model for MinionCore {
 
 impl MinionCore {
     ghost use Rattle.minion_core.specs.Core.{CoreState, core_after};
-    ghost use Rattle.minion_core.specs.Limits.{DeedFits, StateFits, HasRoom, ChangedFits};
+    ghost use Rattle.minion_core.specs.Limits.{DeedFits, StateFits, HasRoom, HasFewEntries, ChangedFits};
+    ghost use Rattle.minion_core.specs.Faults.{IsRunFault};
 
     /// A minion that holds this and has no start, job or entry.
     pub fn new(alloc: Global, held: Holdings) -> MinionCore
@@ -57,11 +59,12 @@ impl MinionCore {
     }
 
     /// The record of the next job. It is within the limits of messages, and has at most two entries.
-    pub fn run(&self, id: &MinionId, job: &Job) -> Result<Deed, AllocError>
+    pub fn run(&self, id: &MinionId, job: &Job) -> Result<Deed, RunFault>
         requires { JobFits job.now }
         ensures ok { IfOk result (λ deed. deed ≡ flat.job_record self.now.jobs job.now id.now self.now.held) }
         ensures fits { IfOk result DeedFits }
-        ensures few { IfOk result (λ deed. length (flat.entries_in deed) ≤ 2) }
+        ensures few { IfOk result HasFewEntries }
+        ensures fault { IsRunFault result job.now.target }
     {
         job_record(self.alloc, self.jobs, job, id, &self.held)
     }
@@ -143,19 +146,6 @@ impl MinionCore {
         ensures fits { All EntryFits self.now.log }
     {
         self.log.as_slice()
-    }
-}
-
-/// What a minion holds that was told nothing. It takes no memory.
-pub fn nothing_held(alloc: Global) -> Holdings
-    ensures value { result ≡ flat.nothing_held }
-    ensures fits { AreWithin result }
-{
-    Holdings {
-        grains: Fields::new(alloc),
-        pillar: Fields::new(alloc),
-        store: Fields::new(alloc),
-        mine: Fields::new(alloc),
     }
 }
 

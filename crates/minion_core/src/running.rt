@@ -3,10 +3,12 @@ ghost use Rattle.std.specs.Prelude.{◌≡◌, ◌++◌, ◌∷◌, [], ◌≤�
 ghost use Rattle.exec_functions.specs.Exec as exec;
 ghost use Rattle.exec_functions.specs.Limits.{AreWithin, IsSendable};
 ghost use Rattle.minion_core.specs.Flat as spec;
-ghost use Rattle.minion_core.specs.Limits.{DeedFits};
+ghost use Rattle.minion_core.specs.Limits.{DeedFits, HasFewEntries};
+ghost use Rattle.minion_core.specs.Faults.{IsRunFault};
 ghost use Rattle.salt_wire.specs.Limits.{JobFits};
 ghost use Rattle.salt_wire.specs.declared.deed.Deed.TheVariants.{Done};
 
+use crate::RunFault;
 use crate::matching::does_hold;
 use exec_functions::{Change, Holdings, Note, Ran, run};
 use salt_value::{Fields, MinionId};
@@ -122,7 +124,7 @@ fn done_by(alloc: Global, seq: u32, held: &Holdings, ran: Ran) -> Result<Deed, A
 fn run_by(alloc: Global, seq: u32, job: &Job, held: &Holdings) -> Result<Deed, AllocError>
     requires job { JobFits job.now }
     requires held { AreWithin held.now }
-    ensures { IfOk result (λ deed. (deed ≡ spec.done_by seq held.now (exec.run job.now.fun job.now.args held.now)) × DeedFits deed × (length (spec.entries_in deed) ≤ 2)) }
+    ensures { IfOk result (λ deed. (deed ≡ spec.done_by seq held.now (exec.run job.now.fun job.now.args held.now)) × DeedFits deed × HasFewEntries deed) }
 {
     let ran = run(alloc, &job.fun, job.args.as_slice(), held)?;
     let deed = done_by(alloc, seq, held, ran)?;
@@ -139,7 +141,7 @@ fn made(
 ) -> Result<Deed, AllocError>
     requires job { JobFits job.now }
     requires held { AreWithin held.now }
-    ensures { IfOk result (λ deed. (deed ≡ (if holds then spec.done_by seq held.now (exec.run job.now.fun job.now.args held.now) else Done seq None [])) × DeedFits deed × (length (spec.entries_in deed) ≤ 2)) }
+    ensures { IfOk result (λ deed. (deed ≡ (if holds then spec.done_by seq held.now (exec.run job.now.fun job.now.args held.now) else Done seq None [])) × DeedFits deed × HasFewEntries deed) }
 {
     if holds {
         run_by(alloc, seq, job, held)
@@ -161,13 +163,14 @@ pub fn job_record(
     job: &Job,
     id: &MinionId,
     held: &Holdings,
-) -> Result<Deed, AllocError>
+) -> Result<Deed, RunFault>
     requires job { JobFits job.now }
     requires held { AreWithin held.now }
     ensures ok { IfOk result (λ deed. deed ≡ spec.job_record seq job.now id.now held.now) }
     ensures fits { IfOk result DeedFits }
-    ensures few { IfOk result (λ deed. length (spec.entries_in deed) ≤ 2) }
+    ensures few { IfOk result HasFewEntries }
+    ensures fault { IsRunFault result job.now.target }
 {
     let holds = does_hold(alloc, job, id, held)?;
-    made(alloc, holds, seq, job, held)
+    Ok(made(alloc, holds, seq, job, held)?)
 }

@@ -4,7 +4,8 @@ ghost use Rattle.std.specs.Option.{option_copied};
 ghost use Rattle.fleet_config.specs.Limits.{most_jobs};
 ghost use Rattle.fleet_config.specs.Tree as tree;
 ghost use Rattle.node_core.specs.Logs.{IsJobRecord};
-ghost use Rattle.node_core.specs.Node.{job_of};
+ghost use Rattle.node_core.specs.Publications.{order, Publishes, IsPublishFault};
+ghost use Rattle.exec_functions.specs.Limits.{AreWithin};
 ghost use Rattle.salt_wire.specs.Limits.{JobFits};
 ghost use Rattle.salt_value.specs.WellFormed.{ValueFits};
 ghost use Rattle.salt_value.specs.declared.value.Value.TheVariants as v;
@@ -22,16 +23,17 @@ use crate::strays::{
     first_cause, is_below, is_first, is_here, is_later, is_neighbour, last_jid, names_held,
     place_of, return_of, seq_of, stray_other,
 };
-use crate::{Glob, PendFault, PublishFault, Stray, TakeFault};
+use crate::publishing::order_job;
+use crate::{PendFault, PublishFault, Stray, TakeFault};
+use exec_functions::Holdings;
 use fleet_config::{Fleet, MOST_JOBS};
 use indexmap::IndexMap;
-use minion_core::{MinionCore, nothing_held};
-use salt_value::{Jid, MinionId, NodeId, Outcome, Value, Word, copy_items};
+use minion_core::MinionCore;
+use salt_value::{Jid, MinionId, NodeId, Outcome, Value, Word};
 use salt_wire::{Deed, Entry, Job, Message};
-use sqlite_items::Boxed;
 use std::alloc::{AllocError, Global};
 use std::marker::Model;
-use target_tree::{Kind, Target};
+use target_tree::Kind;
 
 /// A node: its records, and the counts that it keeps in memory alone. What follows from the records is kept beside them, so that no
 /// call goes through them.
@@ -64,10 +66,10 @@ impl Model for Node {
 
 impl Node {
     ghost use Rattle.fleet_config.specs.Tree.{member};
-    ghost use Rattle.node_core.specs.Node.{NodeState, message_result, taken_in, reply_answer, stray_of, after_message, after_pub, after_up, pending, pending_down, pending_up, pending_ups, publication, first_node, with_record, is_neighbour, is_next, may_take, may_record, IsCounted};
+    ghost use Rattle.node_core.specs.Node.{NodeState, message_result, taken_in, reply_answer, stray_of, after_message, after_pub, after_up, pending, pending_down, pending_up, pending_ups, first_node, with_record, RunsBigPattern, is_neighbour, is_next, may_take, may_record, IsCounted};
     ghost use Rattle.node_core.specs.Node.Answer.{Reply};
     ghost use Rattle.node_core.specs.Records.{jobs, log, jobs_held};
-    ghost use Rattle.minion_core.specs.Flat.{job_record, return_of, nothing_held};
+    ghost use Rattle.minion_core.specs.Flat.{job_record, return_of};
     ghost use Rattle.salt_wire.specs.Limits.{Within, EntryFits};
     ghost use Rattle.salt_wire.specs.declared.deed.Deed.TheVariants.{Publish, Intake, Up, Boot};
 
@@ -75,8 +77,8 @@ impl Node {
     pub fn start(alloc: Global, fleet: &Fleet, me: NodeId) -> Result<Node, AllocError>
         ensures ok { IfOk result (λ node. node ≡ first_node (member fleet.now.tree me)) }
     {
-        if fleet.is_minion(me) {
-            Node::booted(alloc)
+        if me.place() < fleet.count() && fleet.is_minion(me) {
+            Node::booted(alloc, fleet.held(me).copy(alloc)?)
         } else {
             Ok(Node {
                 alloc,
@@ -90,13 +92,14 @@ impl Node {
         }
     }
 
-    // A minion that has booted once.
-    fn booted(alloc: Global) -> Result<Node, AllocError>
-        ensures { IfOk result (λ node. node ≡ record { minion = true; records = Boot ∷ []; held = nothing_held; known_jobs = []; known_ups = [] }) }
+    // A minion that holds this and has booted once.
+    fn booted(alloc: Global, held: Holdings) -> Result<Node, AllocError>
+        requires { AreWithin held }
+        ensures { IfOk result (λ node. node ≡ record { minion = true; records = Boot ∷ []; held = held; known_jobs = []; known_ups = [] }) }
     {
         let mut records = Vec::new(alloc);
         records.push(Deed::Boot)?;
-        let mut core = MinionCore::new(alloc, nothing_held(alloc));
+        let mut core = MinionCore::new(alloc, held);
         core.apply(&Deed::Boot)?;
         Ok(Node {
             alloc,
@@ -110,7 +113,7 @@ impl Node {
     }
 
     /// What node `me` of the fleet does with a message from another node: it takes it, and answers the reply if there is one, or the
-    /// message is stray. After an error the node is as before.
+    /// message is stray. A minion runs a job with the next number on what it holds then. After an error the node is as before.
     pub fn take(
         &mut self,
         fleet: &Fleet,
@@ -125,7 +128,8 @@ impl Node {
         ensures counted { IfOk result (λ reply. IfSome reply IsCounted) }
         ensures fits { IfOk result (λ reply. IfSome reply Within) }
         ensures err { OnErr result (self.new ≡ self.old) }
-        ensures stray { (cause : _) → IsErrOf result (take.Stray cause) → message_result fleet.now.tree me from message.now self.old ≡ record { node = self.old; answer = IsStray cause } }
+        ensures stray { (cause : _) → IsErrOf result (take.Stray cause) → stray_of fleet.now.tree me from message.now self.old ≡ Some cause }
+        ensures too_big { (leaf : ℕ) → IsErrOf result (take.TooBig leaf) → RunsBigPattern message.now self.old leaf }
     {
         if let Some(cause) = self.stray_of(fleet, me, from, message) {
             return Err(TakeFault::Stray { cause });
@@ -158,29 +162,26 @@ impl Node {
         Err(PendFault::NotNeighbour)
     }
 
-    /// Publishes a job of this function with these arguments for the minions whose ids a glob holds for, at a moment in microseconds
-    /// since 1970-01-01 UTC, where fewer jobs are held than the fleet says. After an error the node is as before.
+    /// Publishes an order at the top: a function with its arguments, for a target by its text of this kind, at a moment in microseconds
+    /// since 1970-01-01 UTC. The order is refused by the first cause that is met, in the order of `PublishRefusal`. After an error the
+    /// node is as before.
     pub fn publish(
         &mut self,
         fleet: &Fleet,
         moment: u64,
-        tgt: &Glob,
+        kind: Kind,
+        tgt: &str,
         fun: &Word,
         args: &[Value],
     ) -> Result<Jid, PublishFault>
-        requires { ValueFits (v.List args.now) }
-        ensures ok { IfOk result (λ jid. (publication fleet.now.max_jobs moment (jobs self.old.records) ≡ Ok jid) × (self.new ≡ with_record (Publish (job_of jid tgt.now fun.now args.now)) self.old)) }
+        ensures ok { IfOk result (Publishes fleet.now moment (order kind tgt.now fun.now args.now) self.old self.new) }
         ensures err { OnErr result (self.new ≡ self.old) }
-        ensures fault { IfErr result (λ fault. fault ≢ publish.NoMemory → publication fleet.now.max_jobs moment (jobs self.old.records) ≡ Err fault) }
+        ensures fault { IfErr result (IsPublishFault fleet.now moment (order kind tgt.now fun.now args.now) self.old) }
     {
-        let max = fleet.max_jobs();
-        if self.jobs.len() >= max as usize {
-            return Err(PublishFault::JobsFull { max });
-        }
-        let Ok(jid) = Jid::next(last_jid(self.jobs.as_slice()), moment) else {
-            return Err(PublishFault::JidEnd);
-        };
-        self.add_publish(jid, tgt, fun, args)?;
+        let jobs = self.jobs.as_slice();
+        let job = order_job(self.alloc, fleet, moment, kind, tgt, fun, args, jobs)?;
+        let jid = job.jid;
+        self.add_publish(job)?;
         Ok(jid)
     }
 
@@ -200,19 +201,12 @@ impl Node {
     }
 
     // A record of a job that is published.
-    fn add_publish(
-        &mut self,
-        jid: Jid,
-        tgt: &Glob,
-        fun: &Word,
-        args: &[Value],
-    ) -> Result<(), AllocError>
+    fn add_publish(&mut self, job: Job) -> Result<(), AllocError>
         requires few { length (jobs self.old.records) < most_jobs }
-        requires fits { ValueFits (v.List args.now) }
-        ensures ok { OnOk result (self.new ≡ with_record (Publish (job_of jid tgt.now fun.now args.now)) self.old) }
+        requires fits { JobFits job }
+        ensures ok { OnOk result (self.new ≡ with_record (Publish job) self.old) }
         ensures err { OnErr result (self.new ≡ self.old) }
     {
-        let job = glob_job(self.alloc, jid, tgt, fun, args)?;
         let new = job.copy(self.alloc)?;
         self.add_job(Deed::Publish { job: new }, &job)
     }
@@ -525,29 +519,4 @@ impl Node {
         push_up(self.alloc, &mut self.records, map, minion, entry)?;
         Ok(())
     }
-}
-
-// A job for the minions whose ids a glob holds for.
-fn glob_job(
-    alloc: Global,
-    jid: Jid,
-    tgt: &Glob,
-    fun: &Word,
-    args: &[Value],
-) -> Result<Job, AllocError>
-    requires { ValueFits (v.List args.now) }
-    ensures ok { IfOk result (λ job. job ≡ job_of jid tgt.now fun.now args.now) }
-    ensures fits { IfOk result JobFits }
-{
-    let _micros = jid.micros();
-    let _text = tgt.text().as_str();
-    let _word = fun.as_bytes();
-    Ok(Job {
-        jid,
-        kind: Kind::Glob,
-        tgt: tgt.text().copy()?,
-        target: Boxed::new(alloc, Target::IdGlob(tgt.text().copy()?))?,
-        fun: fun.copy()?,
-        args: copy_items(alloc, args)?,
-    })
 }

@@ -1,11 +1,13 @@
 //! Whether a value is within the limits of its bytes.
-ghost use Rattle.std.specs.Prelude.{◌≡◌, ◌≤◌, ◌+◌, ◌++◌, ◌&&◌, true, length, map};
+ghost use Rattle.std.specs.Prelude.{◌≡◌, ◌≤◌, ◌+◌, ◌++◌, ◌&&◌, ◌↔◌, IsTrue, true, length, map};
 ghost use Rattle.salt_value.specs.Spelling as spelling;
 ghost use Rattle.salt_value.specs.Spelling.{bytes, concatenation, pairs_spelling, spelled_pairs};
-ghost use Rattle.salt_value.specs.WellFormed.{IsWellFormed, AllWellFormed, PairsWellFormed, is_int, is_text, well_formed, depth, greatest};
+ghost use Rattle.salt_value.specs.WellFormed.{ValueFits, IsWellFormed, AllWellFormed, PairsWellFormed, is_int, is_text, well_formed, depth, greatest};
+ghost use Rattle.salt_value.specs.FitTest as test;
 ghost use Rattle.salt_value.specs.Room.{Leaves};
 ghost use Rattle.salt_value.specs.declared.value.Value.TheVariants as v;
 
+use crate::limits::{MOST_VALUE_BYTES, MOST_VALUE_LEVELS};
 use crate::text::Text;
 use crate::value::{Fields, Value};
 
@@ -105,4 +107,24 @@ pub fn after_map(fields: &Fields, levels: usize, room: usize) -> Option<usize>
         return None;
     }
     after_pairs(fields.as_slice(), levels - 1, room)
+}
+
+// The room that is left after a list of these items, which may have so many levels.
+fn after_list(items: &[Value], levels: usize, room: usize) -> Option<usize>
+    requires { room ≤ 65536 }
+    ensures { Leaves (IsWellFormed (v.List items.now)) (depth (v.List items.now)) levels (length (bytes (v.List items.now))) room result }
+{
+    if levels == 0 || room == 0 {
+        return None;
+    }
+    after_items(items, levels - 1, room)
+}
+
+/// Whether the list of these values is within the limits of a value, as `Value::fits` tells it. It takes no memory.
+#[tactic(auto, using(crate::proofs::FitTests::fits_by))]
+pub fn list_fits(items: &[Value]) -> bool
+    ensures ok { IsTrue result ↔ ValueFits (v.List items.now) }
+    ensures exact { result ≡ test.fits (v.List items.now) }
+{
+    after_list(items, MOST_VALUE_LEVELS, MOST_VALUE_BYTES).is_some()
 }

@@ -26,6 +26,7 @@ pub use copy::copy_items;
 pub use event::Event;
 pub use fault::ValueFault;
 pub use fields::Pairs;
+pub use fits::list_fits;
 pub use id::{IdFault, Ids, MinionId, NodeId};
 pub use jid::{Jid, JidEnd};
 pub use laws::{numbers_read_back, prefix_free, texts_read_back, values_read_back};

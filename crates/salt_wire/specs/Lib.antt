@@ -1,6 +1,7 @@
 pub mod Codes
 pub mod Spelling
 pub mod Limits
+pub mod FitTest
 pub mod Decoding
 pub mod RoundTrip
 pub mod FirstFault

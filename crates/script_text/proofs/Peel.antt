@@ -24,7 +24,7 @@ not_schedule id e = let h : 45 ≡ 37 = heads _ _ _ _ e in absurd (omega (arith,
 
 -- no turn is written as the end
 pub not_end : (f : FleetConfig) (turn : Turn) → turn_line f turn ≡ codes "%end" → ⊥
-not_end f (Publish moment tgt fun args) e = let h : 112 ≡ 37 = heads _ _ _ _ e in absurd (omega (arith, h))
+not_end f (Publish moment kind tgt fun args) e = let h : 112 ≡ 37 = heads _ _ _ _ e in absurd (omega (arith, h))
 not_end f (Send from to count) e = let h : 115 ≡ 37 = heads _ _ _ _ e in absurd (omega (arith, h))
 not_end f (Deliver i) e = let h : 100 ≡ 37 = heads _ _ _ _ e in absurd (omega (arith, h))
 not_end f (Report jid) e = let h : 114 ≡ 37 = heads _ _ _ _ e in absurd (omega (arith, h))

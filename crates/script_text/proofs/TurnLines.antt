@@ -4,13 +4,13 @@ use Rattle.std.specs.Prelude.{codes, Option, None, Some, Result, Ok, Err, IfOk}
 use Rattle.std.proofs.lemmas.Bool.{both_ways}
 use Rattle.std.proofs.lemmas.List.{append_cancel_left, append_cancel_right}
 use Rattle.salt_value.specs.Reading.{Decodes}
+use Rattle.target_tree.specs.declared.kind.Kind.TheVariants.{Glob}
 use Rattle.fleet_turns.specs.declared.turn.Turn.{Turn}
 use Rattle.fleet_turns.specs.declared.turn.Turn.TheVariants.{Publish, Send, Deliver, Report, Packet}
 use Rattle.script_text.specs.Script.{MayStand, IsPattern, turn_line}
 use Rattle.script_text.specs.Fleet.{fleet_by, tree_by}
-use Rattle.script_text.specs.Turns.{target_text, IsPublication, publication_text, IsSending, sending_text, are_neighbours}
+use Rattle.script_text.specs.Turns.{target_text, ping, IsPublication, publication_text, IsSending, sending_text, are_neighbours}
 use Rattle.script_text.proofs.Ids.{neighbours_are, are_neighbours_of}
-use Rattle.fleet_turns.proofs.NoArguments.{none_fit}
 use Rattle.script_text.proofs.Peel.{heads}
 
 -- what this line tells of any turn that is written so
@@ -18,7 +18,7 @@ abbrev IsSend : List (List ℕ) → List ℕ → Turn → Type 0
 IsSend ids rest y = (p : ℕ × (ℕ × ℕ)) × (y ≡ Send p.0 p.1.0 p.1.1) × IsSending (tree_by ids) p × (are_neighbours p.0 p.1.0 ≡ true) × (sending_text (tree_by ids) p ≡ rest)
 
 sent : (ids : List (List ℕ)) (line rest : List ℕ) → line ≡ codes "send " ++ rest → (y : Turn) → MayStand (fleet_by ids) y → turn_line (fleet_by ids) y ≡ line → IsSend ids rest y
-sent ids line rest e (Publish moment tgt fun args) v h = let k : 112 ≡ 115 = heads _ _ _ _ (h ∙ e) in absurd (omega (arith, k))
+sent ids line rest e (Publish moment kind tgt fun args) v h = let k : 112 ≡ 115 = heads _ _ _ _ (h ∙ e) in absurd (omega (arith, k))
 sent ids line rest e (Send a b n) v h = (
   (a, (b, n)),
   refl,
@@ -52,16 +52,16 @@ pub send_none : (ids : List (List ℕ)) (line rest : List ℕ) → line ≡ code
     → Decodes (IsSending (tree_by ids)) (sending_text (tree_by ids)) rest None → Decodes (MayStand (fleet_by ids)) (turn_line (fleet_by ids)) line None
 send_none ids line rest e d = λ y v h. let s = sent ids line rest e y v h in d s.0 s.2 s.4
 
--- a publication of `test.ping` without arguments
-abbrev pub ping : ℕ → List ℕ → Turn
-ping moment tgt = Publish moment tgt (codes "test.ping") []
-
 abbrev IsPublish : List ℕ → Turn → Type 0
 IsPublish rest y = (p : ℕ × List ℕ) × (y ≡ ping p.0 p.1) × IsPublication p × (publication_text p ≡ rest)
 
 published : (ids : List (List ℕ)) (line rest : List ℕ) → line ≡ codes "publish " ++ rest → (y : Turn) → MayStand (fleet_by ids) y → turn_line (fleet_by ids) y ≡ line → IsPublish rest y
-published ids line rest e (Publish moment tgt fun args) v h =
-    ((moment, tgt), ap₂ (λ f a. Publish moment tgt f a) v.1.1 v.1.2, (v.0.0, v.1.0), append_cancel_left (codes "publish ") _ rest (h ∙ e))
+published ids line rest e (Publish moment kind tgt fun args) v h = (
+  (moment, tgt),
+  ap (λ k. Publish moment k tgt fun args) v.1.1 ∙ ap₂ (λ f a. Publish moment Glob tgt f a) v.1.2 v.1.3,
+  (v.0, v.1.0),
+  append_cancel_left (codes "publish ") _ rest (h ∙ e),
+)
 published ids line rest e (Send a b n) v h = let k : 115 ≡ 112 = heads _ _ _ _ (h ∙ e) in absurd (omega (arith, k))
 published ids line rest e (Deliver i) v h = let k : 100 ≡ 112 = heads _ _ _ _ (h ∙ e) in absurd (omega (arith, k))
 published ids line rest e (Report jid) v h = let k : 114 ≡ 112 = heads _ _ _ _ (h ∙ e) in absurd (omega (arith, k))
@@ -70,7 +70,7 @@ published ids line rest e (Packet i) v h = absurd v.1
 pub publish_found : (ids : List (List ℕ)) (line rest : List ℕ) (p : ℕ × List ℕ) → line ≡ codes "publish " ++ rest
     → Decodes IsPublication publication_text rest (Some p) → Decodes (MayStand (fleet_by ids)) (turn_line (fleet_by ids)) line (Some (ping p.0 p.1))
 publish_found ids line rest p e d = (
-  ((d.0.0, none_fit), (d.0.1, refl, refl)),
+  (d.0.0, (d.0.1, refl, refl, refl)),
   ap (λ t. codes "publish " ++ t) d.1 ∙ sym e,
   λ y v h. let s = published ids line rest e y v h in s.1 ∙ ap (λ (q : ℕ × List ℕ). ping q.0 q.1) (d.2 s.0 s.2 s.3),
 )

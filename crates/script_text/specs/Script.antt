@@ -3,6 +3,7 @@ use Rattle.std.specs.Prelude.{ℕ, ◌≡◌, ◌<◌, ◌≤◌, ◌==◌, nat_
 use Rattle.std.specs.List.{list_any, list_all, IsDistinct, AllByRecursion}
 use Rattle.salt_value.specs.Id.{IsId}
 use Rattle.salt_value.specs.Jid.{jid_text}
+use Rattle.target_tree.specs.declared.kind.Kind.TheVariants.{Glob}
 use Rattle.fleet_config.specs.Limits.{most_minions}
 use Rattle.fleet_config.specs.Tree.{id_of}
 use Rattle.fleet_config.specs.Fleet.{FleetConfig, flat_fleet}
@@ -46,9 +47,9 @@ most_pattern_bytes = 256
 abbrev pub IsPattern : List ℕ → Type 0
 IsPattern bytes = (0 < length bytes) × (length bytes ≤ most_pattern_bytes) × IsTrue (list_all is_pattern_byte bytes)
 
--- a publication is one of `test.ping` without arguments for a pattern, and no packet is printed
+-- a publication is one of `test.ping` without arguments for a glob of ids, and no packet is printed
 abbrev pub IsBuilt : Turn → Type 0
-IsBuilt (Publish moment tgt fun args) = IsPattern tgt × (fun ≡ codes "test.ping") × (args ≡ [])
+IsBuilt (Publish moment kind tgt fun args) = IsPattern tgt × (kind ≡ Glob) × (fun ≡ codes "test.ping") × (args ≡ [])
 IsBuilt (Send from to count) = Unit {0}
 IsBuilt (Deliver i) = Unit {0}
 IsBuilt (Report jid) = Unit {0}
@@ -64,7 +65,7 @@ quoted_list tgt = codes "[\"" ++ (tgt ++ codes "\"]")
 
 -- the line of a turn
 abbrev pub turn_line : FleetConfig → Turn → List ℕ
-turn_line f (Publish moment tgt fun args) = spaced_words (codes "publish" ∷ decimal moment ∷ codes "glob" ∷ codes "test.ping" ∷ quoted_list tgt ∷ [])
+turn_line f (Publish moment kind tgt fun args) = spaced_words (codes "publish" ∷ decimal moment ∷ codes "glob" ∷ codes "test.ping" ∷ quoted_list tgt ∷ [])
 turn_line f (Send from to count) = spaced_words (codes "send" ∷ id_of f.tree from ∷ id_of f.tree to ∷ decimal count ∷ [])
 turn_line f (Deliver i) = spaced_words (codes "deliver" ∷ decimal i ∷ [])
 turn_line f (Report jid) = spaced_words (codes "report" ∷ jid_text jid ∷ [])

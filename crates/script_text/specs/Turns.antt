@@ -1,7 +1,14 @@
 -- The parts of the lines of turns.
-use Rattle.std.specs.Prelude.{ℕ, ◌<◌, ◌^◌, ◌==◌, nat_lt, ◌&&◌, ◌||◌, Bool, List, ◌∷◌, ◌++◌, length, codes, decimal}
+use Rattle.std.specs.Prelude.{ℕ, ◌<◌, ◌^◌, ◌==◌, nat_lt, ◌&&◌, ◌||◌, Bool, List, [], ◌∷◌, ◌++◌, length, codes, decimal}
+use Rattle.target_tree.specs.declared.kind.Kind.TheVariants.{Glob}
 use Rattle.fleet_config.specs.Tree.{Tree, id_of}
+use Rattle.fleet_turns.specs.declared.turn.Turn.{Turn}
+use Rattle.fleet_turns.specs.declared.turn.Turn.TheVariants.{Publish}
 use Rattle.script_text.specs.Script.{IsPattern}
+
+-- No public contract cites it. A publication of `test.ping` without arguments for a glob of ids
+abbrev pub ping : ℕ → List ℕ → Turn
+ping moment tgt = Publish moment Glob tgt (codes "test.ping") []
 
 -- No public contract cites it. What stands after the moment of a publication
 abbrev pub target_text : List ℕ → List ℕ

@@ -15,10 +15,10 @@ use crate::lines::{cut, read_number, strip_back, strip_front};
 use exec_functions::{Function, Query};
 use fleet_turns::Turn;
 use indexmap::IndexSet;
-use node_core::Glob;
 use salt_value::{Items, Jid, MinionId, NodeId, Text};
 use std::alloc::{AllocError, Global};
 use std::str;
+use target_tree::Kind;
 
 /// The greatest number of bytes of a pattern.
 const MOST_PATTERN_BYTES: usize = 256;
@@ -61,11 +61,12 @@ fn read_publish(
 }
 
 // A publication of `test.ping` without arguments.
-fn ping(alloc: Global, moment: u64, tgt: Glob) -> Result<Turn, AllocError>
-    ensures { IfOk result (λ turn. turn ≡ kind.Publish moment tgt (codes "test.ping") []) }
+fn ping(alloc: Global, moment: u64, tgt: Text) -> Result<Turn, AllocError>
+    ensures { IfOk result (λ turn. turn ≡ spec_turns.ping moment tgt) }
 {
     Ok(Turn::Publish {
         moment,
+        kind: Kind::Glob,
         tgt,
         fun: Function::Asks(Query::TestPing).word(alloc)?,
         args: Items::new(alloc),
@@ -73,7 +74,7 @@ fn ping(alloc: Global, moment: u64, tgt: Glob) -> Result<Turn, AllocError>
 }
 
 // `MOMENT glob test.ping ["PATTERN"]`.
-fn read_publication(alloc: Global, text: &[u8]) -> Result<Option<(u64, Glob)>, AllocError>
+fn read_publication(alloc: Global, text: &[u8]) -> Result<Option<(u64, Text)>, AllocError>
     ensures { IfOk result (Decodes IsPublication publication_text text.now) }
 {
     let Some((digits, rest)) = cut(text, b' ') else {
@@ -89,7 +90,7 @@ fn read_publication(alloc: Global, text: &[u8]) -> Result<Option<(u64, Glob)>, A
 }
 
 // The pattern of `glob test.ping ["PATTERN"]`.
-fn read_target(alloc: Global, text: &[u8]) -> Result<Option<Glob>, AllocError>
+fn read_target(alloc: Global, text: &[u8]) -> Result<Option<Text>, AllocError>
     ensures { IfOk result (Decodes IsPattern target_text text.now) }
 {
     let Some(rest) = strip_front(text, b"glob test.ping [\"") else {
@@ -120,26 +121,15 @@ fn is_pattern(text: &[u8]) -> bool
 }
 
 // The pattern that this text is.
-fn read_pattern(alloc: Global, text: &[u8]) -> Result<Option<Glob>, AllocError>
+fn read_pattern(alloc: Global, text: &[u8]) -> Result<Option<Text>, AllocError>
     ensures { IfOk result (Decodes IsPattern (λ tgt. tgt) text.now) }
 {
     if !is_pattern(text) {
         return Ok(None);
     }
     match str::from_utf8(text) {
-        Ok(pattern) => Ok(Some(target(Text::new(String::from_str(alloc, pattern)?)))),
+        Ok(pattern) => Ok(Some(Text::new(String::from_str(alloc, pattern)?))),
         Err(_) => Ok(None),
-    }
-}
-
-// The target that a pattern is.
-fn target(pattern: Text) -> Glob
-    requires { IsPattern pattern }
-    ensures { result ≡ pattern }
-{
-    match Glob::new(pattern) {
-        Ok(tgt) => tgt,
-        Err(_) => unreachable!(),
     }
 }
 

@@ -108,3 +108,11 @@ leaf_count n = min n 4294967295
 -- the number that a leaf is told by: its count
 abbrev pub IsToldAs : ℕ → (ℕ → Type 0) → Type 0
 IsToldAs told is = (leaf : ℕ) × (told ≡ leaf_count leaf) × is leaf
+
+-- this is the number of the first leaf whose pattern is not readable
+abbrev pub NamesBadPattern : Target → ℕ → Type 0
+NamesBadPattern target told = IsToldAs told (IsBadAt (patterns target))
+
+-- this is the number of a leaf with a readable pattern before which each pattern is readable
+abbrev pub NamesBigPattern : Target → ℕ → Type 0
+NamesBigPattern target told = IsToldAs told (IsBigAt (patterns target))

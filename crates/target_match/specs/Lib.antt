@@ -3,6 +3,7 @@ pub mod Paths
 pub mod Data
 pub mod Leaves
 pub mod Holds
+pub mod Unread
 pub mod Searches
 pub mod ById
 pub mod Ready

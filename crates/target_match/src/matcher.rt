@@ -1,6 +1,7 @@
 //! A target that is ready for matching.
-ghost use Rattle.std.specs.Prelude.{◌≡◌, ℕ, [], IfOk, OnOk, IsOk, IsErrOf, IsTrue};
-ghost use Rattle.target_match.specs.Holds.{Data, holds, is_by_id, decision_by_id, patterns, AreReadable, IsBadAt, IsBigAt, IsToldAs};
+ghost use Rattle.std.specs.Prelude.{◌≡◌, ℕ, None, Some, [], IfOk, OnOk, IsOk, IsErrOf, IsTrue};
+ghost use Rattle.target_match.specs.Holds.{Data, holds, is_by_id, decision_by_id, patterns, AreReadable, NamesBadPattern, NamesBigPattern};
+ghost use Rattle.target_match.specs.Unread.{unread_leaf};
 ghost use Rattle.target_match.specs.Searches.{Keeps, HasSearches};
 
 use crate::BuildFault;
@@ -38,9 +39,11 @@ impl Matcher {
     /// Makes a copy of the target ready. `BadPattern` and `TooBig` name the first leaf whose pattern isn't compiled.
     pub fn build(alloc: Global, target: &Target) -> Result<Matcher, BuildFault>
         ensures ok { IfOk result (λ m. m ≡ target.now) }
-        ensures readable { IfOk result (λ _. AreReadable (patterns target.now)) }
-        ensures bad_pattern { (leaf : ℕ) → IsErrOf result (BuildFault.BadPattern leaf) → IsToldAs leaf (IsBadAt (patterns target.now)) }
-        ensures too_big { (leaf : ℕ) → IsErrOf result (BuildFault.TooBig leaf) → IsToldAs leaf (IsBigAt (patterns target.now)) }
+        ensures readable { IfOk result (λ _. unread_leaf target.now ≡ None) }
+        ensures readable_leaves { IfOk result (λ _. AreReadable (patterns target.now)) }
+        ensures bad_pattern { (leaf : ℕ) → IsErrOf result (BuildFault.BadPattern leaf) → unread_leaf target.now ≡ Some leaf }
+        ensures bad_leaf { (leaf : ℕ) → IsErrOf result (BuildFault.BadPattern leaf) → NamesBadPattern target.now leaf }
+        ensures too_big { (leaf : ℕ) → IsErrOf result (BuildFault.TooBig leaf) → NamesBigPattern target.now leaf }
     {
         let mut leaves = 0;
         let ready = ready(alloc, target, &mut leaves)?;

@@ -6,13 +6,14 @@ ghost use Rattle.fleet_config.specs.Fleet.{FleetConfig, IsFleet};
 ghost use Rattle.fleet_turns.specs.declared.turn.Turn.{Turn};
 ghost use Rattle.tree_world.specs.Network.{Network, top_jobs};
 ghost use Rattle.tree_laws.specs.Invariant.{Holds, IsSent};
-ghost use Rattle.tree_laws.specs.Laws.{HoldsAfterRuns, ArePrefixesOfParents, AreJobsInOrder, NamesHeldJobs, HaveActedOnce, AreOutcomesFlat, AreReportsFlat, ReportsStayFlat, AreReportsSoFar, HaveFlatRows, AllRowsAscend, IsTaken, RecordsGrow, RunsInParts, HasFronts};
+ghost use Rattle.tree_laws.specs.Laws.{HoldsAfterRuns, ArePrefixesOfParents, AreJobsInOrder, JobsArePublished, NamesHeldJobs, HaveActedOnce, AreOutcomesFlat, AreReportsFlat, ReportsStayFlat, AreReportsSoFar, HaveFlatRows, AllRowsAscend, IsTaken, RecordsGrow, RunsInParts, HasFronts};
 
 /// Does nothing. Its contract is a list of laws: who wants one of them calls it.
 ///
 /// - `invariant`: the whole invariant.
 /// - `prefixes`: a node holds the first of its parent's jobs, and its parent has the first entries of each log that it has.
 /// - `jobs_in_order`: the top has at most as many jobs as its fleet says, and at most 65,535, and their jids rise strictly.
+/// - `published`: each job of the top is that of a publication among the turns.
 /// - `names_held`: each return and each mine in a log names a job that the node with the log holds.
 /// - `packets_fit`: the job or entry of a packet stands at its number in its sender's list, and its count is at most its sender's.
 /// - `acted_once`: a minion runs the jobs of the top once each and in order, as a flat minion does, and holds what that one holds.
@@ -29,6 +30,7 @@ pub fn whole_runs()
     ensures invariant { HoldsAfterRuns (λ f w. Holds f.tree w) }
     ensures prefixes { HoldsAfterRuns ArePrefixesOfParents }
     ensures jobs_in_order { HoldsAfterRuns (λ f w. AreJobsInOrder f.max_jobs (top_jobs w)) }
+    ensures published { JobsArePublished }
     ensures names_held { HoldsAfterRuns (λ f w. (i : ℕ) → i < length f.tree → NamesHeldJobs w i) }
     ensures packets_fit { HoldsAfterRuns (λ f w. All (IsSent f.tree w.nodes) w.packets) }
     ensures acted_once { HoldsAfterRuns HaveActedOnce }

@@ -5,10 +5,11 @@ use Rattle.fleet_config.specs.Fleet.{FleetConfig}
 use Rattle.salt_wire.specs.declared.message.Job.{Job}
 use Rattle.salt_wire.specs.declared.deed.Deed.TheVariants as r
 use Rattle.salt_wire.specs.declared.message.Message.{Message}
-use Rattle.node_core.specs.declared.faults.PublishFault.{PublishFault}
+use Rattle.node_core.specs.declared.faults.PublishRefusal.{PublishRefusal}
 use Rattle.node_core.specs.Records.{jobs}
-use Rattle.minion_core.specs.Flat.{nothing_held}
-use Rattle.node_core.specs.Node.{NodeState, Answer, MessageResult, job_of, first_node, with_record, message_result, pending, publication}
+use Rattle.exec_functions.specs.Limits.{no_holdings}
+use Rattle.node_core.specs.Node.{NodeState, Answer, MessageResult, first_node, with_record, message_result, pending}
+use Rattle.node_core.specs.Publications.{order, publication}
 use Rattle.node_core.specs.Node.Answer.{IsStray, Silent, Reply}
 use Rattle.tree_world.specs.Packets.{Packet}
 use Rattle.fleet_turns.specs.declared.turn.Turn.{Turn}
@@ -27,7 +28,7 @@ pub record System : Type 0 where
 
 -- the node at a place, and a master without records past the end
 abbrev pub node_at : List NodeState → ℕ → NodeState
-node_at nodes i = slice_index_or nodes i (record { minion = false; records = []; held = nothing_held; known_jobs = []; known_ups = [] })
+node_at nodes i = slice_index_or nodes i (record { minion = false; records = []; held = no_holdings; known_jobs = []; known_ups = [] })
 
 -- each minion has booted, and nothing was sent
 abbrev pub start : FleetConfig → Network
@@ -49,10 +50,10 @@ with_node_at w i node = record w { nodes = slice_set w.nodes i node }
 abbrev pub with_packets : Network → List Packet → Network
 with_packets w new = record w { packets = w.packets ++ new }
 
--- a publication adds one record at the top, that of the job with its jid, or nothing where it is refused
-abbrev pub after_publication : (ℕ → Job) → Result ℕ PublishFault → Network → Network
-after_publication job (Err cause) w = w
-after_publication job (Ok jid) w = with_node_at w 0 (with_record (r.Publish (job jid)) (node_at w.nodes 0))
+-- a publication adds one record at the top, that of the job, or nothing where it is refused
+abbrev pub after_publication : Result Job PublishRefusal → Network → Network
+after_publication (Err cause) w = w
+after_publication (Ok job) w = with_node_at w 0 (with_record (r.Publish job) (node_at w.nodes 0))
 
 -- a message on its way between two places
 abbrev pub packet : ℕ → ℕ → Message → Packet
@@ -94,7 +95,7 @@ after_delivery f w (Some p) = if nat_lt p.to (length w.nodes) then after_receipt
 
 -- the network after a turn
 abbrev pub after : FleetConfig → Turn → Network → Network
-after f (Publish moment tgt fun args) w = after_publication (λ jid. job_of jid tgt fun args) (publication f.max_jobs moment (top_jobs w)) w
+after f (Publish moment kind tgt fun args) w = after_publication (publication f moment (order kind tgt fun args) (top_jobs w)) w
 after f (Send from to count) w = with_packets w (sent_packets f from to count w)
 after f (Deliver i) w = after_delivery f w (slice_get w.packets i)
 after f (Report jid) w = w

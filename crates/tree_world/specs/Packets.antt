@@ -24,6 +24,6 @@ message_in bytes = message_of (decoding bytes)
 
 -- the bytes are the body of a message that is within the limits, and are read as that message
 pub record IsPacketBody (bytes : List ℕ) : Type 0 where
-  pub decoding : decoding bytes ≡ Ok (message_in bytes)
+  pub decoded : decoding bytes ≡ Ok (message_in bytes)
   pub within : Within (message_in bytes)
   pub spelled : bytes ≡ body (message_in bytes)

@@ -8,9 +8,11 @@ use Rattle.fleet_config.specs.Fleet.{FleetConfig}
 use Rattle.fleet_config.specs.Tree.{id_of}
 use Rattle.salt_wire.specs.declared.message.Job.{Job}
 use Rattle.salt_value.specs.declared.outcome.Row.{Row}
-use Rattle.node_core.specs.declared.faults.PublishFault.{PublishFault}
-use Rattle.node_core.specs.declared.faults.PublishFault.TheVariants.{JobsFull, JidEnd, NoMemory}
-use Rattle.node_core.specs.Node.{publication}
+use Rattle.target_tree.specs.declared.fault.TargetFault.{TargetFault}
+use Rattle.target_tree.specs.declared.fault.TargetFault.TheVariants as fault
+use Rattle.node_core.specs.declared.faults.PublishRefusal.{PublishRefusal}
+use Rattle.node_core.specs.declared.faults.PublishRefusal.TheVariants.{Target, BadPattern, TooLarge, JobsFull, JidEnd}
+use Rattle.node_core.specs.Publications.{order, publication}
 use Rattle.fleet_turns.specs.declared.turn.Turn.{Turn}
 use Rattle.fleet_turns.specs.declared.turn.Turn.TheVariants.{Publish, Send, Deliver, Report}
 use Rattle.fleet_turns.specs.declared.turn.Turn.TheVariants as t
@@ -22,15 +24,35 @@ use Rattle.tree_world.specs.Report.{report}
 abbrev pub line : List ℕ → List ℕ
 line bytes = bytes ++ 10 ∷ []
 
--- the word of a refusal; want of memory is none, and is never printed
-abbrev pub refusal_text : PublishFault → List ℕ
+-- a word, a space and a number
+abbrev pub numbered : List ℕ → ℕ → List ℕ
+numbered word n = word ++ (codes " " ++ decimal n)
+
+-- the words of a fault of a target's text: its name, and its number where it has one
+abbrev pub target_fault_text : TargetFault → List ℕ
+target_fault_text fault.NoMemory = codes "NoMemory"
+target_fault_text fault.Empty = codes "Empty"
+target_fault_text fault.TooLong = codes "TooLong"
+target_fault_text (fault.Word at) = numbered (codes "Word") at
+target_fault_text fault.Unclosed = codes "Unclosed"
+target_fault_text fault.TooDeep = codes "TooDeep"
+target_fault_text fault.TooManyWords = codes "TooManyWords"
+target_fault_text fault.TooManyPatterns = codes "TooManyPatterns"
+target_fault_text (fault.UnknownGroup at) = numbered (codes "UnknownGroup") at
+target_fault_text (fault.Circle at) = numbered (codes "Circle") at
+target_fault_text (fault.BadLetter at) = numbered (codes "BadLetter") at
+
+-- the words of a refusal
+abbrev pub refusal_text : PublishRefusal → List ℕ
+refusal_text (Target cause) = codes "Target " ++ target_fault_text cause
+refusal_text (BadPattern leaf) = numbered (codes "BadPattern") leaf
+refusal_text TooLarge = codes "TooLarge"
 refusal_text (JobsFull max) = codes "JobsFull"
 refusal_text JidEnd = codes "JidEnd"
-refusal_text NoMemory = []
 
 -- the line of a publication
-abbrev pub publish_text : Result ℕ PublishFault → List ℕ
-publish_text (Ok jid) = line (codes "publish " ++ jid_text jid)
+abbrev pub publish_text : Result Job PublishRefusal → List ℕ
+publish_text (Ok job) = line (codes "publish " ++ jid_text job.jid)
 publish_text (Err cause) = line (codes "refused publish " ++ refusal_text cause)
 
 -- a minion's id, its retcode, and its value as JSON
@@ -74,7 +96,7 @@ packet_text f i (Some p) =
 
 -- what a turn prints
 abbrev pub printed_text : FleetConfig → Turn → Network → List ℕ
-printed_text f (Publish moment tgt fun args) w = publish_text (publication f.max_jobs moment (top_jobs w))
+printed_text f (Publish moment kind tgt fun args) w = publish_text (publication f moment (order kind tgt fun args) (top_jobs w))
 printed_text f (Send from to count) w = []
 printed_text f (Deliver i) w = []
 printed_text f (Report jid) w = report_text f w jid (number_of jid (top_jobs w))

@@ -1,8 +1,8 @@
 //! The network of a fleet, and its turns.
-ghost use Rattle.std.specs.Prelude.{◌≡◌, ◌≢◌, ◌<◌, ◌++◌, ◌^◌, List, All, slice_set, length, map, take, true, IfOk, IfErr, IfSome, OnOk, OnErr, IsErrOf, Ok, Err};
+ghost use Rattle.std.specs.Prelude.{◌≡◌, ℕ, ◌<◌, ◌++◌, ◌^◌, List, All, slice_set, length, map, take, true, IfOk, IfErr, IfSome, OnOk, OnErr, IsErrOf, Ok, Err};
 ghost use Rattle.salt_value.specs.declared.value.Value.TheVariants as v;
 ghost use Rattle.salt_value.specs.WellFormed.{ValueFits};
-ghost use Rattle.node_core.specs.Node.{job_of, first_node, pending, is_neighbour, IsCounted};
+ghost use Rattle.node_core.specs.Node.{first_node, pending, is_neighbour, IsCounted, RunsBigPattern};
 ghost use Rattle.salt_wire.specs.Limits.{Within};
 ghost use Rattle.tree_world.specs.Network.{node_at, reception, with_reply, with_reply_if_any};
 ghost use Rattle.tree_world.specs.Packets.{Packet};
@@ -17,13 +17,14 @@ use crate::text::{
 };
 use fleet_config::Fleet;
 use fleet_turns::Turn;
-use node_core::{Glob, Node, PendFault, PublishFault, TakeFault};
+use node_core::{Node, PendFault, PublishFault, TakeFault};
 use salt_outside::{Outside, Sink};
-use salt_value::{Jid, NodeId, Value, Word};
+use salt_value::{Jid, NodeId, Text, Value, Word};
 use salt_wire::Message;
 use sqlite_items::at;
 use std::alloc::{AllocError, Global};
 use std::marker::Model;
+use target_tree::Kind;
 use thiserror::Error;
 
 /// The greatest number of messages that one turn sends.
@@ -64,6 +65,9 @@ impl Model for World {
 pub enum StepFault {
     #[error("no memory was found")]
     NoMemory,
+    /// The pattern of this leaf of a job's target can be read, but its tables would pass 10 MiB, the limit of `regex`.
+    #[error("the pattern of leaf {leaf} is too big")]
+    TooBig { leaf: u32 },
     #[error("the text could not be written")]
     WriteFault,
 }
@@ -78,10 +82,38 @@ impl From<AllocError> for StepFault {
     }
 }
 
+// Why a turn stops before its text is written.
+#[derive(Clone, Copy, Debug, PartialEq, Eq)]
+enum Halt {
+    NoMemory,
+    TooBig { leaf: u32 },
+}
+
+impl From<AllocError> for Halt {
+    ghost use Rattle.tree_world.specs.declared.world.Halt.TheVariants.{NoMemory};
+
+    ghost from_gives = { λ _ e. e ≡ NoMemory };
+
+    fn from(_: AllocError) -> Halt {
+        Halt::NoMemory
+    }
+}
+
+impl From<Halt> for StepFault {
+    fn from(halt: Halt) -> StepFault {
+        match halt {
+            Halt::NoMemory => StepFault::NoMemory,
+            Halt::TooBig { leaf } => StepFault::TooBig { leaf },
+        }
+    }
+}
+
 impl World {
-    ghost use Rattle.tree_world.specs.Network.{System, system, after, after_publication, node_at, top_jobs};
+    ghost use Rattle.tree_world.specs.Network.{System, system, after, node_at};
     ghost use Rattle.fleet_turns.specs.Turns.{IsTurn};
-    ghost use Rattle.node_core.specs.Node.{publication, is_neighbour};
+    ghost use Rattle.node_core.specs.Node.{is_neighbour};
+    ghost use Rattle.node_core.specs.Publications.{order, IsTargetTooBig};
+    ghost use Rattle.tree_world.specs.Halts.{MeetsBigPattern};
     ghost use Rattle.tree_world.specs.Text.{printed_text};
 
     /// The nodes of a fleet as they start, where it has one: each minion has booted once.
@@ -118,15 +150,17 @@ impl World {
         ensures text { OnOk result (K.held sink.new ≡ contents_after (K.held sink.old) (printed_text self.old.fleet turn.now self.old.network)) }
         ensures part { IsPart (K.held sink.old) (K.held sink.new) (printed_text self.old.fleet turn.now self.old.network) }
         ensures faults { CountsFaults (IsErrOf result StepFault.WriteFault) (K.faults sink.old) (K.faults sink.new) }
+        ensures too_big { (leaf : ℕ) → IsErrOf result (StepFault.TooBig leaf) → MeetsBigPattern self.old.fleet turn.now self.old.network leaf }
     {
         match turn {
             Turn::Publish {
                 moment,
+                kind,
                 tgt,
                 fun,
                 args,
             } => {
-                let text = self.publish(*moment, tgt, fun, args.as_slice())?;
+                let text = self.publish(*moment, *kind, tgt, fun, args.as_slice())?;
                 tell(sink, &text)
             }
             Turn::Send { from, to, count } => Ok(self.send(*from, *to, *count)?),
@@ -146,42 +180,25 @@ impl World {
     fn publish(
         &mut self,
         moment: u64,
-        tgt: &Glob,
+        kind: Kind,
+        tgt: &Text,
         fun: &Word,
         args: &[Value],
-    ) -> Result<Vec<u8>, AllocError>
-        requires { ValueFits (v.List args.now) }
-        ensures state { OnOk result (self.new.network ≡ after self.old.fleet (Turn.Publish moment tgt.now fun.now args.now) self.old.network) }
+    ) -> Result<Vec<u8>, Halt>
+        ensures state { OnOk result (self.new.network ≡ after self.old.fleet (Turn.Publish moment kind tgt.now fun.now args.now) self.old.network) }
         ensures fleet { self.new.fleet ≡ self.old.fleet }
-        ensures text { IfOk result (λ text. text.items ≡ printed_text self.old.fleet (Turn.Publish moment tgt.now fun.now args.now) self.old.network) }
-    {
-        match self.publish_at_top(moment, tgt, fun, args) {
-            Ok(jid) => published_text(self.alloc, jid),
-            Err(PublishFault::JobsFull { .. }) => refused_text(self.alloc, b"JobsFull"),
-            Err(PublishFault::JidEnd) => refused_text(self.alloc, b"JidEnd"),
-            Err(PublishFault::NoMemory) => Err(AllocError),
-        }
-    }
-
-    // The record of a publication, or why it is refused.
-    fn publish_at_top(
-        &mut self,
-        moment: u64,
-        tgt: &Glob,
-        fun: &Word,
-        args: &[Value],
-    ) -> Result<Jid, PublishFault>
-        requires { ValueFits (v.List args.now) }
-        ensures ok { IfOk result (λ jid. publication self.old.fleet.max_jobs moment (top_jobs self.old.network) ≡ Ok jid) }
-        ensures state { IfOk result (λ jid. self.new.network ≡ after_publication (λ jid. job_of jid tgt.now fun.now args.now) (Ok jid) self.old.network) }
-        ensures err { OnErr result (self.new.network ≡ self.old.network) }
-        ensures fault { IfErr result (λ fault. fault ≢ PublishFault.NoMemory → publication self.old.fleet.max_jobs moment (top_jobs self.old.network) ≡ Err fault) }
-        ensures fleet { self.new.fleet ≡ self.old.fleet }
+        ensures text { IfOk result (λ text. text.items ≡ printed_text self.old.fleet (Turn.Publish moment kind tgt.now fun.now args.now) self.old.network) }
+        ensures too_big { (leaf : ℕ) → IsErrOf result (Halt.TooBig leaf) → IsTargetTooBig self.old.fleet.groups (order kind tgt.now fun.now args.now) leaf }
     {
         let Some(top) = self.nodes.first_mut() else {
             unreachable!();
         };
-        top.publish(&self.fleet, moment, tgt, fun, args)
+        match top.publish(&self.fleet, moment, kind, tgt.as_str(), fun, args) {
+            Ok(jid) => Ok(published_text(self.alloc, jid)?),
+            Err(PublishFault::Refused { cause }) => Ok(refused_text(self.alloc, cause)?),
+            Err(PublishFault::TooBig { leaf }) => Err(Halt::TooBig { leaf }),
+            Err(PublishFault::NoMemory) => Err(Halt::NoMemory),
+        }
     }
 
     // The lines of a report.
@@ -222,8 +239,9 @@ impl World {
 
     // The receiver takes a packet, and its reply is a packet.
     #[tactic(auto, using(crate::proofs::Delivers::delivered_past, crate::proofs::Delivers::delivered_to))]
-    fn deliver(&mut self, i: u64) -> Result<(), AllocError>
+    fn deliver(&mut self, i: u64) -> Result<(), Halt>
         requires { i < 2 ^ 64 }
+        ensures too_big { (leaf : ℕ) → IsErrOf result (Halt.TooBig leaf) → MeetsBigPattern self.old.fleet (Turn.Deliver i) self.old.network leaf }
         ensures state { OnOk result (self.new.network ≡ after self.old.fleet (Turn.Deliver i) self.old.network) }
         ensures fleet { self.new.fleet ≡ self.old.fleet }
     {
@@ -246,7 +264,7 @@ fn take_packet(
     fleet: &Fleet,
     nodes: &mut Vec<Node>,
     packet: &Packet,
-) -> Result<Option<Message>, AllocError>
+) -> Result<Option<Message>, Halt>
     requires node { packet.now.to < length nodes.old.items }
     requires nodes { length nodes.old.items ≡ length fleet.now.tree }
     ensures nodes { OnOk result (nodes.new.items ≡ slice_set nodes.old.items packet.now.to (reception fleet.now nodes.old.items packet.now).node) }
@@ -254,6 +272,7 @@ fn take_packet(
     ensures count { length nodes.new.items ≡ length nodes.old.items }
     ensures fits { IfOk result (λ reply. IfSome reply Within) }
     ensures counted { IfOk result (λ reply. IfSome reply IsCounted) }
+    ensures too_big { (leaf : ℕ) → IsErrOf result (Halt.TooBig leaf) → RunsBigPattern packet.now.message (node_at nodes.old.items packet.now.to) leaf }
 {
     let message = packet.message(alloc)?;
     let node = &mut nodes[packet.to().index()];
@@ -262,7 +281,8 @@ fn take_packet(
     match taken {
         Ok(reply) => Ok(reply),
         Err(TakeFault::Stray { .. }) => Ok(None),
-        Err(TakeFault::NoMemory) => Err(AllocError),
+        Err(TakeFault::TooBig { leaf }) => Err(Halt::TooBig { leaf }),
+        Err(TakeFault::NoMemory) => Err(Halt::NoMemory),
     }
 }
 
