@@ -4,5 +4,6 @@ pub mod Meeting
 pub mod ById
 pub mod Readied
 pub mod Leaves
+pub mod Unread
 pub mod Keeping
 pub mod Asking
