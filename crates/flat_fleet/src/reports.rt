@@ -5,13 +5,13 @@ ghost use Rattle.flat_fleet.specs.Reports as spec;
 
 use crate::{FlatMinion, FlatReport};
 use exec_functions::run;
+use minion_core::does_hold_with;
 use salt_value::{MinionId, Outcome, Row, Rows};
 use salt_wire::Job;
 use std::alloc::{AllocError, Global};
 use target_match::Matcher;
 
 // One job on one minion.
-#[tactic(auto, unfolding(minion_core::specs::Flat::does_hold))]
 fn step(
     alloc: Global,
     job: &Job,
@@ -22,7 +22,7 @@ fn step(
     ensures outcome { IfOk result (λ outcome. outcome ≡ spec.outcome_of job.now minion.old) }
     ensures minion_after { OnOk result (minion.new ≡ spec.minion_after job.now minion.old) }
 {
-    if !matcher.holds(&minion.id, &minion.held.grains, &minion.held.pillar)? {
+    if !does_hold_with(matcher, job, &minion.id, &minion.held)? {
         return Ok(None);
     }
     let ran = run(alloc, &job.fun, job.args.as_slice(), &minion.held)?;
@@ -92,7 +92,8 @@ fn all_jobs(
     ensures { IfOk result (λ reports. reports.items ≡ spec.reports_to (length jobs.now) minions.old jobs.now) }
 {
     let mut reports = Vec::new(alloc);
-    for (k, job) in jobs.iter().enumerate() {
+    for k in 0..jobs.len() {
+        let job = &jobs[k];
         let rows = one_job(alloc, job, &matchers[k], minions)?;
         let fun = job.fun.copy()?;
         reports.push(FlatReport {

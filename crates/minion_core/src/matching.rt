@@ -7,7 +7,7 @@ use crate::RunFault;
 use exec_functions::Holdings;
 use salt_value::MinionId;
 use salt_wire::Job;
-use std::alloc::Global;
+use std::alloc::{AllocError, Global};
 use target_match::{BuildFault, Matcher};
 use target_tree::Target;
 
@@ -25,7 +25,6 @@ fn matcher_of(alloc: Global, target: &Target) -> Result<Matcher, RunFault>
 }
 
 /// Whether the target of a job holds for a minion, by its id and by what it holds (Salt documentation, Targeting Minions).
-#[tactic(auto, unfolding(crate::specs::Flat::does_hold))]
 pub fn does_hold(
     alloc: Global,
     job: &Job,
@@ -36,5 +35,19 @@ pub fn does_hold(
     ensures fault { IsRunFault result job.now.target }
 {
     let matcher = matcher_of(alloc, job.target.get())?;
-    Ok(matcher.holds(id, &held.grains, &held.pillar)?)
+    Ok(does_hold_with(&matcher, job, id, held)?)
+}
+
+/// The same by a matcher that was built of the target of the job.
+#[tactic(auto, unfolding(crate::specs::Flat::does_hold))]
+pub fn does_hold_with(
+    matcher: &Matcher,
+    _job: &Job,
+    id: &MinionId,
+    held: &Holdings,
+) -> Result<bool, AllocError>
+    requires { matcher.now ≡ _job.now.target }
+    ensures ok { IfOk result (λ b. b ≡ spec.does_hold _job.now id.now held.now) }
+{
+    matcher.holds(id, &held.grains, &held.pillar)
 }

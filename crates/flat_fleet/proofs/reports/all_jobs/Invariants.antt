@@ -3,5 +3,5 @@ use Rattle.flat_fleet.specs.Reports.{reports_to}
 use Rattle.flat_fleet.proofs.Present.{present}
 use Rattle.flat_fleet.proofs.reports.all_jobs.Given as goal
 
-abbrev pub invariant-loop-job : goal.invariant-loop-job
-invariant-loop-job l = (l.minions ≡ map (present (take l.job-index l.jobs)) l.initial.minions) × (l.reports.items ≡ reports_to l.job-index l.initial.minions l.jobs)
+abbrev pub invariant-loop-k : goal.invariant-loop-k
+invariant-loop-k l = (l.minions ≡ map (present (take l.k l.jobs)) l.initial.minions) × (l.reports.items ≡ reports_to l.k l.initial.minions l.jobs)
