@@ -1,17 +1,22 @@
 -- A tree with a node more is a tree.
 use Rattle.std.proofs.Common.{◌≡◌, ℕ, zero, suc, ◌+◌, ◌-◌, ◌<◌, ◌≤◌, ◌∙◌, sym, ap, refl, subst, inl, inr, Bool, true, false, not, ◌&&◌, ◌||◌, nat_lt, List, [], ◌∷◌, ◌++◌, length, filter, Option, None, Some, unwrap_or, bytes_eq, cond, arith, if◌then◌else◌}
-use Rattle.std.specs.Prelude.{is_none, position}
+use Rattle.std.specs.Prelude.{All, is_none, position}
 use Rattle.std.proofs.lemmas.Bool.{cases_lt, ltb-true, lt-ltb}
 use Rattle.std.proofs.lemmas.Bool.Decides.{leb_tells}
 use Rattle.std.proofs.lemmas.List.{get_or_append_left, get_or_push, length-append, length_push}
-use Rattle.std.proofs.lemmas.List.Elements.{filter-append}
+use Rattle.std.proofs.lemmas.List.Elements.{filter-append, All-nil, All-cons, All-push}
 use Rattle.std.proofs.lemmas.Slice.Eq.{bytes_eq-Decides}
 use Rattle.fleet_config.specs.declared.fleet.Member.{Member}
 use Rattle.fleet_config.specs.declared.fleet.Role.{Role}
 use Rattle.fleet_config.specs.declared.fleet.Role.TheVariants as role
 use Rattle.fleet_config.specs.declared.node.FleetNode.{FleetNode}
 use Rattle.fleet_config.specs.declared.node.NodeFault.{NodeFault}
-use Rattle.fleet_config.specs.declared.node.NodeFault.TheVariants.{NoTop, TwoTops, TwiceId, NoParent, TooMany, TooDeep}
+use Rattle.fleet_config.specs.declared.node.NodeFault.TheVariants.{NoTop, TwoTops, TwiceId, NoParent, TooMany, TooDeep, TooLarge}
+use Rattle.exec_functions.specs.declared.holdings.Holdings.{Holdings}
+use Rattle.exec_functions.specs.Limits.{AreWithin, are_within}
+use Rattle.salt_value.specs.declared.value.Value.TheVariants as v
+use Rattle.salt_value.specs.FitTest.{fits}
+use Rattle.salt_value.proofs.FitTests.{is_fit}
 use Rattle.fleet_config.specs.Limits.{most_minions, most_syndics, most_levels}
 use Rattle.fleet_config.specs.Causes.{first_cause}
 use Rattle.fleet_config.specs.Tree.{Tree, IsTree, member, id_of, parent_of, is_top, is_minion, is_syndic, runs_jobs, minion_count, syndic_count, level, level_by}
@@ -29,27 +34,38 @@ pub record Passed (t : Tree) (node : FleetNode) : Type 0 where
   pub placed : is_placed t node.role node.parent ≡ true
   pub room : has_room t node.role ≡ true
   pub levels : has_level t node.parent ≡ true
+  pub held : are_within node.held ≡ true
 
-all_hold : (a b c d e f : Bool) (u v w x y z : NodeFault) → first_cause ((a, u) ∷ (b, v) ∷ (c, w) ∷ (d, x) ∷ (e, y) ∷ (f, z) ∷ []) ≡ None
-    → (a ≡ true) × (b ≡ true) × (c ≡ true) × (d ≡ true) × (e ≡ true) × (f ≡ true)
-all_hold false b c d e f u v w x y z h = absurd (cc)
-all_hold true false c d e f u v w x y z h = absurd (cc)
-all_hold true true false d e f u v w x y z h = absurd (cc)
-all_hold true true true false e f u v w x y z h = absurd (cc)
-all_hold true true true true false f u v w x y z h = absurd (cc)
-all_hold true true true true true false u v w x y z h = absurd (cc)
-all_hold true true true true true true u v w x y z h = (refl, refl, refl, refl, refl, refl)
+all_hold : (a b c d e f g : Bool) (t u v w x y z : NodeFault)
+    → first_cause ((a, t) ∷ (b, u) ∷ (c, v) ∷ (d, w) ∷ (e, x) ∷ (f, y) ∷ (g, z) ∷ []) ≡ None
+    → (a ≡ true) × (b ≡ true) × (c ≡ true) × (d ≡ true) × (e ≡ true) × (f ≡ true) × (g ≡ true)
+all_hold false b c d e f g t u v w x y z h = absurd (cc)
+all_hold true false c d e f g t u v w x y z h = absurd (cc)
+all_hold true true false d e f g t u v w x y z h = absurd (cc)
+all_hold true true true false e f g t u v w x y z h = absurd (cc)
+all_hold true true true true false f g t u v w x y z h = absurd (cc)
+all_hold true true true true true false g t u v w x y z h = absurd (cc)
+all_hold true true true true true true false t u v w x y z h = absurd (cc)
+all_hold true true true true true true true t u v w x y z h = (refl, refl, refl, refl, refl, refl, refl)
 
 pub passed : (t : Tree) (node : FleetNode) → node_fault t node ≡ None → Passed t node
 passed t node h =
     let all = all_hold (is_top node.role || nat_lt 0 (length t)) (not (is_top node.role && nat_lt 0 (length t)))
     (is_none (position (λ (m : Member). bytes_eq m.id node.id) t)) (is_placed t node.role node.parent) (has_room t node.role) (has_level t node.parent)
-    NoTop TwoTops TwiceId NoParent TooMany TooDeep h in
-    record { top = all.0; one = all.1; once = all.2; placed = all.3; room = all.4; levels = all.5 }
+    (are_within node.held) NoTop TwoTops TwiceId NoParent TooMany TooDeep TooLarge h in
+    record { top = all.0; one = all.1; once = all.2; placed = all.3; room = all.4; levels = all.5; held = all.6 }
 
 both_hold : (a b : Bool) → (a && b) ≡ true → (a ≡ true) × (b ≡ true)
 both_hold true b e = (refl, e)
 both_hold false b e = absurd (cc)
+
+-- holdings that pass the test are within the limits
+holdings_fit : (held : Holdings) → are_within held ≡ true → AreWithin held
+holdings_fit held e =
+    let one = both_hold (fits (v.Map held.grains)) (fits (v.Map held.pillar) && (fits (v.Map held.store) && fits (v.Map held.mine))) e in
+    let two = both_hold (fits (v.Map held.pillar)) (fits (v.Map held.store) && fits (v.Map held.mine)) one.1 in
+    let three = both_hold (fits (v.Map held.store)) (fits (v.Map held.mine)) two.1 in
+    record { grains = is_fit _ one.0; pillar = is_fit _ two.0; store = is_fit _ three.0; mine = is_fit _ three.1 }
 
 opposite : (b : Bool) → not b ≡ true → b ≡ false
 opposite true e = absurd (cc)
@@ -184,6 +200,7 @@ first_tree node h =
       few_minions = omega arith;
       few_syndics = omega arith;
       few_levels = λ i l. (let z : 0 ≡ i = omega arith in let one : level (member_of node ∷ []) 0 ≡ 1 = level_top (member_of node ∷ []) 0 in subst (λ n. level (member_of node ∷ []) n ≤ most_levels) z (omega arith));
+      held_fits = All-cons (λ (m : Member). AreWithin m.held) (member_of node) [] (holdings_fit node.held h.held) (All-nil (λ (m : Member). AreWithin m.held));
     }
 
 differ : (a b : List ℕ) → bytes_eq a b ≡ false → a ≡ b → ⊥
@@ -202,15 +219,15 @@ last_or_old t x P old new i l =
     ]
 
 later_tree : (t : Tree) (node : FleetNode) → IsTree t → Passed t node → IsTree (t ++ member_of node ∷ [])
-later_tree t node h passed =
+later_tree t node h all =
     let some : 0 < length t = h.some in
     let x : Member = member_of node in
     let n : length (t ++ x ∷ []) ≡ length t + 1 = length_push t x in
-    let no_top : is_top node.role ≡ false = left_fails (is_top node.role) (nat_lt 0 (length t)) (lt-ltb 0 (length t) some) passed.one in
-    let there = later_placed t node.role node.parent no_top passed.placed in
+    let no_top : is_top node.role ≡ false = left_fails (is_top node.role) (nat_lt 0 (length t)) (lt-ltb 0 (length t) some) all.one in
+    let there = later_placed t node.role node.parent no_top all.placed in
     let parent = master_there t node.parent there in
-    let deep = level_there t node.parent there passed.levels in
-    let once = none_of _ passed.once in
+    let deep = level_there t node.parent there all.levels in
+    let once = none_of _ all.once in
     record {
       some = omega arith;
       top = ap (λ (m : Member). m.role) (old_member t x 0 some) ∙ h.top;
@@ -236,11 +253,12 @@ later_tree t node h passed =
           (λ e. last_or_old t x (λ j. id_of (t ++ x ∷ []) (length t) ≡ id_of (t ++ x ∷ []) j → length t ≡ j)
           (λ j b e. absurd (differ (id_of t j) x.id (none_differs t x.id once j b) (sym (ap (λ (m : Member). m.id) (old_member t x j b)) ∙ sym e ∙ ap (λ (m : Member). m.id) (new_member t x))))
           (λ e. refl) j b e) i a e;
-      few_minions = room_minions t x node.role refl passed.room h.few_minions;
-      few_syndics = room_syndics t x node.role refl passed.room h.few_syndics;
+      few_minions = room_minions t x node.role refl all.room h.few_minions;
+      few_syndics = room_syndics t x node.role refl all.room h.few_syndics;
       few_levels = last_or_old t x (λ i. level (t ++ x ∷ []) i ≤ most_levels)
           (λ i l. (let e : level (t ++ x ∷ []) i ≡ level t i = same_level t x h i i l in let few = h.few_levels i l in omega arith))
           (let e = new_level t x (length t - 1) h (omega arith) parent.0 in omega arith);
+      held_fits = All-push (λ (m : Member). AreWithin m.held) t x h.held_fits (holdings_fit node.held all.held);
     }
 
 pub grown_tree : (t : Tree) (node : FleetNode) → (0 < length t → IsTree t) → node_fault t node ≡ None → IsTree (t ++ member_of node ∷ [])
@@ -248,26 +266,24 @@ grown_tree [] node h e = first_tree node (passed [] node e)
 grown_tree (m ∷ ms) node h e = later_tree (m ∷ ms) node (h (omega arith)) (passed (m ∷ ms) node e)
 
 -- what a fleet keeps beside its nodes, with a node more
-pub grown_index : {S : Type 0} (t : Tree) (old new : IndexMap (List ℕ) ℕ S) (workers middles max_jobs : ℕ) (node : FleetNode)
-    → IsIndexed t old workers middles max_jobs → node_fault t node ≡ None
+pub grown_index : {S : Type 0} (t : Tree) (old new : IndexMap (List ℕ) ℕ S) (workers middles : ℕ) (node : FleetNode)
+    → IsIndexed t old workers middles → node_fault t node ≡ None
     → ((id : List ℕ) → get bytes_eq new id ≡ cond (bytes_eq node.id id) (Some (length t)) (get bytes_eq old id))
-    → IsIndexed (t ++ member_of node ∷ []) new (workers + (if runs_jobs node.role then 1 else 0)) (middles + (if is_syndic node.role then 1 else 0)) max_jobs
-grown_index t old new workers middles max_jobs node h e grown =
+    → IsIndexed (t ++ member_of node ∷ []) new (workers + (if runs_jobs node.role then 1 else 0)) (middles + (if is_syndic node.role then 1 else 0))
+grown_index t old new workers middles node h e grown =
     let all = passed t node e in
     record {
       tree = λ some. grown_tree t node h.tree e;
       found = λ id. grown id ∙ ap (λ (o : Option ℕ). cond (bytes_eq node.id id) (Some (length t)) o) (h.found id) ∙ sym (place_push t (member_of node) id (none_of _ all.once));
       minions = ap (λ n. n + (if runs_jobs node.role then 1 else 0)) h.minions ∙ sym (count_push (λ m. runs_jobs m.role) t (member_of node));
       syndics = ap (λ n. n + (if is_syndic node.role then 1 else 0)) h.syndics ∙ sym (count_push (λ m. is_syndic m.role) t (member_of node));
-      some_jobs = h.some_jobs;
-      jobs = h.jobs;
     }
 
-pub same_index : {S : Type 0} (t new_t : Tree) (old new : IndexMap (List ℕ) ℕ S) (workers middles max_jobs : ℕ)
-    → IsIndexed t old workers middles max_jobs → new_t ≡ t → ((id : List ℕ) → get bytes_eq new id ≡ get bytes_eq old id) → IsIndexed new_t new workers middles max_jobs
-same_index t new_t old new workers middles max_jobs h same kept =
-    subst (λ (u : Tree). IsIndexed u new workers middles max_jobs) (sym same)
-    (record { tree = h.tree; found = λ id. kept id ∙ h.found id; minions = h.minions; syndics = h.syndics; some_jobs = h.some_jobs; jobs = h.jobs })
+pub same_index : {S : Type 0} (t new_t : Tree) (old new : IndexMap (List ℕ) ℕ S) (workers middles : ℕ)
+    → IsIndexed t old workers middles → new_t ≡ t → ((id : List ℕ) → get bytes_eq new id ≡ get bytes_eq old id) → IsIndexed new_t new workers middles
+same_index t new_t old new workers middles h same kept =
+    subst (λ (u : Tree). IsIndexed u new workers middles) (sym same)
+    (record { tree = h.tree; found = λ id. kept id ∙ h.found id; minions = h.minions; syndics = h.syndics })
 
 -- the counts of a fleet's minions and syndics
 pub few_of_each : (t : Tree) → (0 < length t → IsTree t) → (minion_count t ≤ most_minions) × (syndic_count t ≤ most_syndics)

@@ -81,7 +81,6 @@ impl Model for Fleet {
     ghost Value = { FleetConfig };
 
     ghost use Rattle.fleet_config.specs.Places.{IsIndexed};
-
     ghost use Rattle.fleet_config.specs.Fleet.{AreLimits};
     ghost use Rattle.salt_value.specs.contracts.value.Value as value;
     ghost use Rattle.std.specs.Coded.{codes};

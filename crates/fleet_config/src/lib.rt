@@ -6,5 +6,8 @@
 mod fleet;
 mod node;
 
-pub use fleet::{Fleet, LEAST_JOURNAL_LIMIT, MOST_JOBS, MOST_JOURNAL_LIMIT, MOST_LEVELS, MOST_MINIONS, MOST_SYNDICS, Member, Role};
+pub use fleet::{
+    Fleet, LEAST_JOURNAL_LIMIT, MOST_JOBS, MOST_JOURNAL_LIMIT, MOST_LEVELS, MOST_MINIONS,
+    MOST_SYNDICS, Member, Role,
+};
 pub use node::{FleetNode, NodeFault};
