@@ -51,16 +51,16 @@ abbrev pub order_tree : List Group → Order → Result Target PublishRefusal
 order_tree groups o = tree_or_refusal (machine_tree o.kind groups o.tgt)
 
 -- arguments and target are within the limits of a job
-abbrev pub order_fits : Order → Target → Bool
-order_fits o tree = fits (v.List o.args) && tree_fits tree
+abbrev pub order_fits : List Value → Target → Bool
+order_fits args tree = fits (v.List args) && tree_fits tree
 
--- What must hold of an order whose target is this tree, where the top has these jobs and may have so many, each with the refusal where it
--- does not, in order.
-abbrev pub order_tests : ℕ → Order → Target → List Job → List (Bool × PublishRefusal)
-order_tests max_jobs o tree jobs =
+-- What must hold of an order with these arguments and this target where the top holds so many jobs and may hold at most max_jobs, each with
+-- the refusal where it does not, in order.
+abbrev pub order_tests : ℕ → List Value → Target → ℕ → List (Bool × PublishRefusal)
+order_tests max_jobs args tree held =
     (is_none (unread_leaf tree), r.BadPattern (unwrap_or (unread_leaf tree) 0))
-    ∷ (order_fits o tree, r.TooLarge)
-    ∷ (nat_lt (length jobs) max_jobs, r.JobsFull max_jobs) ∷ []
+    ∷ (order_fits args tree, r.TooLarge)
+    ∷ (nat_lt held max_jobs, r.JobsFull max_jobs) ∷ []
 
 -- the jid after those of these jobs at a moment
 abbrev pub jid_after : ℕ → List Job → Result ℕ PublishRefusal
@@ -71,12 +71,15 @@ abbrev pub unless_refused : {A : Type 0} → Option PublishRefusal → Result A 
 unless_refused None next = next
 unless_refused (Some cause) next = Err cause
 
+-- the jid of an order with these arguments and this target, or the first refusal
+abbrev pub order_jid : FleetConfig → ℕ → List Value → Target → List Job → Result ℕ PublishRefusal
+order_jid f moment args tree jobs =
+    unless_refused (first_cause (order_tests f.max_jobs args tree (length jobs))) (jid_after moment jobs)
+
 -- The job that an order makes at a moment where the top has these jobs, or the first cause for which it is refused.
 abbrev pub publication : FleetConfig → ℕ → Order → List Job → Result Job PublishRefusal
 publication f moment o jobs =
-    order_tree f.groups o >>= λ tree.
-    unless_refused (first_cause (order_tests f.max_jobs o tree jobs)) (jid_after moment jobs) >>= λ jid.
-    Ok (order_job o tree jid)
+    order_tree f.groups o >>= λ tree. order_jid f moment o.args tree jobs >>= λ jid. Ok (order_job o tree jid)
 
 -- an order makes this job
 abbrev pub IsPublication : FleetConfig → ℕ → Order → List Job → Job → Type 0

@@ -5,6 +5,9 @@ ghost use Rattle.fleet_config.specs.Limits.{most_jobs};
 ghost use Rattle.fleet_config.specs.Tree as tree;
 ghost use Rattle.node_core.specs.Logs.{IsJobRecord};
 ghost use Rattle.node_core.specs.Publications.{order, Publishes, IsPublishFault};
+ghost use Rattle.node_core.specs.Steps.{IsRunBy, IsRunAnswer};
+ghost use Rattle.minion_core.specs.Faults.{IsRunFault};
+ghost use Rattle.fleet_config.specs.Causes as causes;
 ghost use Rattle.exec_functions.specs.Limits.{AreWithin};
 ghost use Rattle.salt_wire.specs.Limits.{JobFits};
 ghost use Rattle.salt_value.specs.WellFormed.{ValueFits};
@@ -20,15 +23,15 @@ use crate::logs::Logs;
 use crate::recording::{push_both, push_run, push_up};
 use crate::sending::{push_entries, push_pubs};
 use crate::strays::{
-    first_cause, is_below, is_first, is_here, is_later, is_neighbour, last_jid, names_held,
-    place_of, return_of, seq_of, stray_other,
+    first_cause, is_below, is_first, is_here, is_later, is_neighbour, names_held,
+    place_of, return_of, seq_of, stray_other, take_fault,
 };
 use crate::publishing::order_job;
 use crate::{PendFault, PublishFault, Stray, TakeFault};
 use exec_functions::Holdings;
 use fleet_config::{Fleet, MOST_JOBS};
 use indexmap::IndexMap;
-use minion_core::MinionCore;
+use minion_core::{MinionCore, RunFault};
 use salt_value::{Jid, MinionId, NodeId, Outcome, Value, Word};
 use salt_wire::{Deed, Entry, Job, Message};
 use std::alloc::{AllocError, Global};
@@ -66,7 +69,7 @@ impl Model for Node {
 
 impl Node {
     ghost use Rattle.fleet_config.specs.Tree.{member};
-    ghost use Rattle.node_core.specs.Node.{NodeState, message_result, taken_in, reply_answer, stray_of, after_message, after_pub, after_up, pending, pending_down, pending_up, pending_ups, first_node, with_record, RunsBigPattern, is_neighbour, is_next, may_take, may_record, IsCounted};
+    ghost use Rattle.node_core.specs.Node.{NodeState, message_result, taken_in, reply_answer, stray_of, after_message, after_pub, after_up, pending, pending_down, pending_up, pending_ups, first_node, with_record, RunsBigPattern, runs_next, first_tests, is_neighbour, is_next, may_take, may_record, IsCounted};
     ghost use Rattle.node_core.specs.Node.Answer.{Reply};
     ghost use Rattle.node_core.specs.Records.{jobs, log, jobs_held};
     ghost use Rattle.minion_core.specs.Flat.{job_record, return_of};
@@ -131,10 +134,10 @@ impl Node {
         ensures stray { (cause : _) → IsErrOf result (take.Stray cause) → stray_of fleet.now.tree me from message.now self.old ≡ Some cause }
         ensures too_big { (leaf : ℕ) → IsErrOf result (take.TooBig leaf) → RunsBigPattern message.now self.old leaf }
     {
-        if let Some(cause) = self.stray_of(fleet, me, from, message) {
+        if let Some(cause) = self.first_stray(fleet, me, from, message) {
             return Err(TakeFault::Stray { cause });
         }
-        Ok(self.accept(fleet, me, from, message)?)
+        self.accept(fleet, me, from, message)
     }
 
     /// What it has for a neighbour, at most `max` messages.
@@ -260,10 +263,16 @@ impl Node {
         Ok(())
     }
 
-    // Why a message is not taken.
-    fn stray_of(&self, fleet: &Fleet, me: NodeId, from: NodeId, message: &Message) -> Option<Stray>
+    // Why a message is not taken, before a job is looked into.
+    fn first_stray(
+        &self,
+        fleet: &Fleet,
+        me: NodeId,
+        from: NodeId,
+        message: &Message,
+    ) -> Option<Stray>
         requires { me < length fleet.now.tree }
-        ensures { result ≡ stray_of fleet.now.tree me from message.now self.now }
+        ensures { result ≡ causes.first_cause (first_tests fleet.now.tree me from message.now self.now) }
     {
         match message {
             Message::Pub { seq, job } => first_cause(&[
@@ -314,7 +323,7 @@ impl Node {
         n: u32,
         entry: &Entry,
     ) -> Option<Stray>
-        ensures { result ≡ stray_of fleet.now.tree me from (m.Up minion.now n entry.now) self.now }
+        ensures { result ≡ causes.first_cause (first_tests fleet.now.tree me from (m.Up minion.now n entry.now) self.now) }
     {
         let below = is_below(fleet, me, from, minion);
         let right_way = fleet.is_parent(me, from)
@@ -358,28 +367,29 @@ impl Node {
         n != self.entries(minion) || is_first(entry, self.logs.entries(minion))
     }
 
-    // Takes a message that is not stray.
+    // Takes a message that passes the first tests.
     fn accept(
         &mut self,
         fleet: &Fleet,
         me: NodeId,
         from: NodeId,
         message: &Message,
-    ) -> Result<Option<Message>, AllocError>
+    ) -> Result<Option<Message>, TakeFault>
         requires within { me < length fleet.now.tree }
-        requires taken { stray_of fleet.now.tree me from message.now self.old ≡ None }
+        requires first { causes.first_cause (first_tests fleet.now.tree me from message.now self.old) ≡ None }
         requires counted { IsCounted message.now }
         requires fits { Within message.now }
         ensures accepted { IfOk result (λ reply. after_message fleet.now.tree me from message.now self.old ≡ record { node = self.new; answer = reply_answer reply }) }
         ensures counted { IfOk result (λ reply. IfSome reply IsCounted) }
         ensures fits { IfOk result (λ reply. IfSome reply Within) }
         ensures err { OnErr result (self.new ≡ self.old) }
+        ensures run { IsRunAnswer result message.now self.old }
     {
         match message {
-            Message::Pub { seq, job } => {
-                let have = self.accept_pub(fleet, me, *seq, job)?;
-                Ok(Some(Message::Have { jobs: have }))
-            }
+            Message::Pub { seq, job } => match self.accept_pub(fleet, me, *seq, job) {
+                Ok(have) => Ok(Some(Message::Have { jobs: have })),
+                Err(fault) => Err(take_fault(fault)),
+            },
             Message::Have { jobs } => {
                 self.known_jobs.raise(from, *jobs)?;
                 Ok(None)
@@ -412,10 +422,11 @@ impl Node {
         me: NodeId,
         seq: u32,
         job: &Job,
-    ) -> Result<u32, AllocError>
+    ) -> Result<u32, RunFault>
         requires within { me < length fleet.now.tree }
         requires few { seq < most_jobs }
         requires fits { JobFits job.now }
+        ensures run { IsRunBy (runs_next seq self.old) result job.now.target }
         ensures accepted { IfOk result (λ have. after_pub fleet.now.tree me seq job.now self.old ≡ record { node = self.new; answer = Reply (m.Have have) }) }
         ensures err { OnErr result (self.new ≡ self.old) }
     {
@@ -426,28 +437,30 @@ impl Node {
     }
 
     // The record of a job with the next number: a minion runs it first.
-    fn take_in(&mut self, id: &MinionId, seq: u32, job: &Job) -> Result<(), AllocError>
+    fn take_in(&mut self, id: &MinionId, seq: u32, job: &Job) -> Result<(), RunFault>
         requires next { seq ≡ jobs_held self.old.records }
         requires few { jobs_held self.old.records < most_jobs }
         requires fits { JobFits job.now }
         ensures ok { OnOk result (self.new ≡ with_record (if self.old.minion then job_record seq job.now id.now self.old.held else Intake job.now) self.old) }
         ensures err { OnErr result (self.new ≡ self.old) }
+        ensures run { IsRunBy self.old.minion result job.now.target }
     {
         if self.is_minion() {
             self.add_done(id, seq, job)
         } else {
-            self.add_intake(job)
+            Ok(self.add_intake(job)?)
         }
     }
 
     // A record of a job that it ran.
-    fn add_done(&mut self, id: &MinionId, seq: u32, job: &Job) -> Result<(), AllocError>
+    fn add_done(&mut self, id: &MinionId, seq: u32, job: &Job) -> Result<(), RunFault>
         requires minion { self.old.minion ≡ true }
         requires next { seq ≡ jobs_held self.old.records }
         requires few { jobs_held self.old.records < most_jobs }
         requires fits { JobFits job.now }
         ensures ok { OnOk result (self.new ≡ with_record (job_record seq job.now id.now self.old.held) self.old) }
         ensures err { OnErr result (self.new ≡ self.old) }
+        ensures fault { IsRunFault result job.now.target }
     {
         let Logs::Own(core) = &mut self.logs else {
             unreachable!()

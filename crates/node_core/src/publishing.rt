@@ -1,15 +1,130 @@
 //! The job of an order.
-ghost use Rattle.std.specs.Prelude.{◌<◌, length, IfOk, IfErr, OnOk};
+ghost use Rattle.std.specs.Prelude.{◌≡◌, ◌≤◌, ◌<◌, None, Ok, length, IfOk, IfErr, OnOk};
 ghost use Rattle.fleet_config.specs.Limits.{most_jobs};
-ghost use Rattle.salt_wire.specs.Limits.{JobFits};
-ghost use Rattle.node_core.specs.Publications.{order, IsPublication, IsOrderFault};
+ghost use Rattle.target_tree.specs.Machine.{machine_tree};
+ghost use Rattle.target_match.specs.Unread.{unread_leaf};
+ghost use Rattle.salt_value.specs.WellFormed.{ValueFits};
+ghost use Rattle.salt_value.specs.declared.value.Value.TheVariants as v;
+ghost use Rattle.salt_wire.specs.Limits.{JobFits, TreeFits, most_target_bytes};
+ghost use Rattle.node_core.specs.Publications as spec;
+ghost use Rattle.node_core.specs.Publications.{order, IsPublication, IsOrderFault, tree_or_refusal};
+ghost use Rattle.node_core.specs.Steps as step;
+ghost use Rattle.node_core.specs.Steps.{IsRefusalOf, IsPatternFault, IsJidFault, HasRoom};
 
-use crate::PublishFault;
+use crate::strays::last_jid;
+use crate::{PublishFault, PublishRefusal};
 use fleet_config::Fleet;
-use salt_value::{Value, Word};
-use salt_wire::Job;
-use std::alloc::Global;
-use target_tree::Kind;
+use salt_value::{Jid, Text, Value, Word, copy_items, list_fits};
+use salt_wire::{Job, tree_fits};
+use sqlite_items::Boxed;
+use std::alloc::{AllocError, Global};
+use target_match::{BuildFault, Matcher};
+use target_tree::{Groups, Kind, Target, TargetFault, read_target};
+
+// The fault of a publication whose target's text has this fault.
+fn order_fault(fault: TargetFault) -> PublishFault
+    ensures value { result ≡ step.order_fault fault }
+{
+    match fault {
+        TargetFault::NoMemory => PublishFault::NoMemory,
+        fault => PublishFault::Refused {
+            cause: PublishRefusal::Target { fault },
+        },
+    }
+}
+
+// The tree of a target's text.
+fn order_tree(
+    alloc: Global,
+    groups: &Groups,
+    kind: Kind,
+    tgt: &str,
+) -> Result<Boxed<Target>, PublishFault>
+    ensures ok { IfOk result (λ tree. machine_tree kind groups.now tgt.now ≡ Ok tree) }
+    ensures short { OnOk result (length tgt.now ≤ most_target_bytes) }
+    ensures fault { IfErr result (IsRefusalOf (tree_or_refusal (machine_tree kind groups.now tgt.now))) }
+{
+    match read_target(alloc, kind, tgt, groups) {
+        Ok(tree) => Ok(Boxed::new(alloc, tree)?),
+        Err(fault) => Err(order_fault(fault)),
+    }
+}
+
+// Can each pattern of the target be read and matched with?
+fn read_patterns(alloc: Global, tree: &Target) -> Result<(), PublishFault>
+    ensures ok { OnOk result (unread_leaf tree.now ≡ None) }
+    ensures fault { IfErr result (IsPatternFault tree.now) }
+{
+    match Matcher::build(alloc, tree) {
+        Ok(_) => Ok(()),
+        Err(BuildFault::NoMemory) => Err(PublishFault::NoMemory),
+        Err(BuildFault::BadPattern { leaf }) => Err(PublishFault::Refused {
+            cause: PublishRefusal::BadPattern { leaf },
+        }),
+        Err(BuildFault::TooBig { leaf }) => Err(PublishFault::TooBig { leaf }),
+    }
+}
+
+// The jid of an order with these arguments and this target.
+fn order_jid(
+    alloc: Global,
+    fleet: &Fleet,
+    moment: u64,
+    args: &[Value],
+    tree: &Target,
+    jobs: &[Job],
+) -> Result<Jid, PublishFault>
+    ensures ok { IfOk result (λ jid. spec.order_jid fleet.now moment args.now tree.now jobs.now ≡ Ok jid) }
+    ensures room { OnOk result (HasRoom args.now tree.now jobs.now) }
+    ensures fault { IfErr result (IsJidFault fleet.now moment args.now tree.now jobs.now) }
+{
+    read_patterns(alloc, tree)?;
+    if !(list_fits(args) && tree_fits(tree)) {
+        return Err(PublishFault::Refused {
+            cause: PublishRefusal::TooLarge,
+        });
+    }
+    let max = fleet.max_jobs();
+    if jobs.len() >= max as usize {
+        return Err(PublishFault::Refused {
+            cause: PublishRefusal::JobsFull { max },
+        });
+    }
+    match Jid::next(last_jid(jobs), moment) {
+        Ok(jid) => Ok(jid),
+        Err(_) => Err(PublishFault::Refused {
+            cause: PublishRefusal::JidEnd,
+        }),
+    }
+}
+
+// The job of an order, whose target is this tree.
+fn make_job(
+    alloc: Global,
+    jid: Jid,
+    kind: Kind,
+    tgt: &str,
+    tree: Boxed<Target>,
+    fun: &Word,
+    args: &[Value],
+) -> Result<Job, AllocError>
+    requires short { length tgt.now ≤ most_target_bytes }
+    requires args { ValueFits (v.List args.now) }
+    requires tree { TreeFits tree }
+    ensures ok { IfOk result (λ job. job ≡ spec.order_job (order kind tgt.now fun.now args.now) tree jid) }
+    ensures fits { IfOk result JobFits }
+{
+    let _micros = jid.micros();
+    let _word = fun.as_bytes();
+    Ok(Job {
+        jid,
+        kind,
+        tgt: Text::new(String::from_str(alloc, tgt)?),
+        target: tree,
+        fun: fun.copy()?,
+        args: copy_items(alloc, args)?,
+    })
+}
 
 /// The job that an order makes at a moment where the top has these jobs. It is within the limits of messages, and there is room for it.
 pub fn order_job(
@@ -27,5 +142,7 @@ pub fn order_job(
     ensures few { OnOk result (length jobs.now < most_jobs) }
     ensures fault { IfErr result (IsOrderFault fleet.now moment (order kind tgt.now fun.now args.now) jobs.now) }
 {
-    Err(PublishFault::NoMemory)
+    let tree = order_tree(alloc, fleet.groups(), kind, tgt)?;
+    let jid = order_jid(alloc, fleet, moment, args, tree.get(), jobs)?;
+    Ok(make_job(alloc, jid, kind, tgt, tree, fun, args)?)
 }

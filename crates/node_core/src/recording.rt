@@ -2,7 +2,8 @@
 ghost use Rattle.std.specs.Prelude.{◌≡◌, ◌≢◌, ◌++◌, ◌∷◌, [], ◌<◌, ◌≤◌, ◌+◌, ◌^◌, ℕ, List, length, bytes_eq, OnOk, OnErr, if◌then◌else◌};
 ghost use Rattle.minion_core.specs.Core.{core_after};
 ghost use Rattle.minion_core.specs.Flat as flat;
-ghost use Rattle.minion_core.specs.Limits.{DeedFits, HasRoom};
+ghost use Rattle.minion_core.specs.Limits.{DeedFits, HasFewEntries, HasRoom};
+ghost use Rattle.minion_core.specs.Faults.{IsRunFault};
 ghost use Rattle.node_core.specs.Logs.{entries_at};
 ghost use Rattle.node_core.specs.declared.logs.Logs.TheVariants.{Below};
 ghost use Rattle.salt_wire.specs.Limits.{JobFits};
@@ -10,7 +11,7 @@ ghost use Rattle.salt_wire.specs.declared.deed.Deed.TheVariants.{Up};
 
 use crate::logs::push_below;
 use indexmap::IndexMap;
-use minion_core::{MinionCore, job_record};
+use minion_core::{MinionCore, RunFault, job_record};
 use salt_value::MinionId;
 use salt_wire::{Deed, Entries, Entry, Job};
 use std::alloc::{AllocError, Global};
@@ -104,16 +105,17 @@ pub fn push_run(
     seq: u32,
     id: &MinionId,
     job: &Job,
-) -> Result<(), AllocError>
+) -> Result<(), RunFault>
     requires fits { JobFits job.now }
     requires room { core.old.jobs + 1 < 2 ^ 32 }
     ensures records { OnOk result (records.new.items ≡ records.old.items ++ flat.job_record seq job.now id.now core.old.held ∷ []) }
     ensures core { OnOk result (core.new ≡ core_after (flat.job_record seq job.now id.now core.old.held) core.old) }
-    ensures few { OnOk result (length (flat.entries_in (flat.job_record seq job.now id.now core.old.held)) ≤ 2) }
+    ensures few { OnOk result (HasFewEntries (flat.job_record seq job.now id.now core.old.held)) }
     ensures fits { OnOk result (DeedFits (flat.job_record seq job.now id.now core.old.held)) }
     ensures kept_records { OnErr result (records.new.items ≡ records.old.items) }
     ensures kept_core { OnErr result (core.new ≡ core.old) }
+    ensures fault { IsRunFault result job.now.target }
 {
     let deed = job_record(alloc, seq, job, id, core.held())?;
-    push_done(records, core, deed)
+    Ok(push_done(records, core, deed)?)
 }

@@ -5,10 +5,12 @@ ghost use Rattle.fleet_config.specs.Causes.{first_cause};
 ghost use Rattle.fleet_config.specs.Tree as tree;
 ghost use Rattle.minion_core.specs.Flat as flat;
 ghost use Rattle.node_core.specs.Node as node;
+ghost use Rattle.node_core.specs.Steps as step;
 ghost use Rattle.node_core.specs.declared.faults.Stray.TheVariants as s;
 
-use crate::Stray;
+use crate::{Stray, TakeFault};
 use fleet_config::Fleet;
+use minion_core::RunFault;
 use salt_value::{Jid, MinionId, NodeId, Outcome};
 use salt_wire::{Entry, Job};
 
@@ -138,5 +140,18 @@ pub fn seq_of(entry: &Entry) -> u32
         Entry::Fired { .. } => 0,
         Entry::Start { .. } => 0,
         Entry::Mine { seq, .. } => *seq,
+    }
+}
+
+/// The fault of a message whose job was not run.
+pub fn take_fault(fault: RunFault) -> TakeFault
+    ensures { result ≡ step.take_fault fault }
+{
+    match fault {
+        RunFault::NoMemory => TakeFault::NoMemory,
+        RunFault::BadPattern { leaf } => TakeFault::Stray {
+            cause: Stray::BadPattern { leaf },
+        },
+        RunFault::TooBig { leaf } => TakeFault::TooBig { leaf },
     }
 }
