@@ -1,7 +1,9 @@
 pub mod Bodies
+pub mod BudgetLemmas
 pub mod Codec
 pub mod FieldLemmas
 pub mod FirstFaults
+pub mod FitTests
 pub mod MessageBack
 pub mod TreeBack
 pub mod TreeFaults

@@ -5,3 +5,4 @@ pub mod FitTest
 pub mod Decoding
 pub mod RoundTrip
 pub mod FirstFault
+pub mod Budget

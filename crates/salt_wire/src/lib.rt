@@ -6,6 +6,7 @@ mod copy;
 mod deed;
 mod fault;
 mod fields;
+mod fit;
 mod laws;
 mod message;
 mod parts;
@@ -17,6 +18,7 @@ mod writing;
 
 pub use deed::{Changed, Deed, Entries, ReactDeed, ReactDeeds};
 pub use fault::WireFault;
+pub use fit::tree_fits;
 pub use laws::messages_read_back;
 pub use message::{Entry, Job, Message};
 pub use salt_value::{Event, Outcome};

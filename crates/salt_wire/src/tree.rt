@@ -12,16 +12,19 @@ use std::alloc::Global;
 use target_tree::Target;
 
 /// The nodes of the greatest tree, and so its levels.
-const MOST_NODES: usize = 256;
+pub const MOST_NODES: usize = 256;
 
 /// The pattern leaves of the greatest tree.
-const MOST_PATTERNS: usize = 16;
+pub const MOST_PATTERNS: usize = 16;
 
 /// The bytes of the longest tree.
-const MOST_TREE_BYTES: usize = 65_536;
+pub const MOST_TREE_BYTES: usize = 65_536;
 
 /// The bytes of the longest text of a leaf.
-const MOST_LEAF_BYTES: usize = 4096;
+pub const MOST_LEAF_BYTES: usize = 4096;
+
+/// The ids of the longest leaf with ids.
+pub const MOST_LEAF_IDS: usize = 65_535;
 
 /// A node at the front of some bytes, what may still come in the tree around it, and the bytes after it.
 type Node<'a, T> = Result<(T, Room, &'a [u8]), Misread>;
