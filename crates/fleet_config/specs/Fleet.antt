@@ -1,11 +1,10 @@
 -- What a fleet says.
-use Rattle.std.specs.Prelude.{ℕ, ◌≤◌, List, []}
+use Rattle.std.specs.Prelude.{ℕ, ◌≤◌, List, [], ◌∷◌, ◌++◌}
 use Rattle.target_tree.specs.Nodegroups.{Group}
 use Rattle.fleet_config.specs.Limits.{most_jobs, least_journal_limit, most_journal_limit}
 use Rattle.fleet_config.specs.Tree.{Tree, IsTree, flat_tree}
 
--- What a fleet says: its tree, its nodegroups, the greatest number of jobs that its top holds, and the bytes of the longest part of a
--- journal. Rules of reactions come in as a further field.
+-- what a fleet says: its tree, its nodegroups, how many jobs its top holds at most, and how many bytes a part of a journal has at most
 pub record FleetConfig : Type 0 where
   pub tree : Tree
   pub groups : List Group
@@ -23,6 +22,14 @@ pub record AreLimits (max_jobs journal_limit : ℕ) : Type 0 where
 pub record IsFleet (f : FleetConfig) : Type 0 where
   pub tree : IsTree f.tree
   pub limits : AreLimits f.max_jobs f.journal_limit
+
+-- the fleet with other limits
+abbrev pub with_limits : ℕ → ℕ → FleetConfig → FleetConfig
+with_limits max_jobs journal_limit f = record f { max_jobs = max_jobs; journal_limit = journal_limit }
+
+-- the fleet with a nodegroup more, the last one
+abbrev pub with_group : List ℕ → List ℕ → FleetConfig → FleetConfig
+with_group name text f = record f { groups = f.groups ++ (name, text) ∷ [] }
 
 -- a fleet of this tree without a nodegroup, whose limits are the greatest
 abbrev pub fleet_with : Tree → FleetConfig

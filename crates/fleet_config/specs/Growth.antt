@@ -1,11 +1,11 @@
 -- A node more in a fleet: what the fleet is then, or why the node is refused.
-use Rattle.std.specs.Prelude.{ℕ, nat_lt, ◌&&◌, ◌||◌, not, Bool, true, false, List, [], ◌∷◌, ◌++◌, length, position, is_none, unwrap_or, Option, None, Some, bytes_eq, if◌then◌else◌}
+use Rattle.std.specs.Prelude.{ℕ, ◌≡◌, ◌≢◌, nat_lt, ◌&&◌, ◌||◌, not, Bool, true, false, List, [], ◌∷◌, ◌++◌, length, position, is_none, unwrap_or, Option, None, Some, bytes_eq, if◌then◌else◌}
 use Rattle.fleet_config.specs.declared.fleet.Role.{Role}
 use Rattle.fleet_config.specs.declared.fleet.Role.TheVariants as role
 use Rattle.fleet_config.specs.declared.fleet.Member.{Member}
 use Rattle.fleet_config.specs.declared.node.FleetNode.{FleetNode}
 use Rattle.fleet_config.specs.declared.node.NodeFault.{NodeFault}
-use Rattle.fleet_config.specs.declared.node.NodeFault.TheVariants.{NoTop, TwoTops, TwiceId, NoParent, TooMany, TooDeep, TooLarge}
+use Rattle.fleet_config.specs.declared.node.NodeFault.TheVariants.{NoMemory, NoTop, TwoTops, TwiceId, NoParent, TooMany, TooDeep, TooLarge}
 use Rattle.exec_functions.specs.Limits.{are_within}
 use Rattle.fleet_config.specs.Limits.{most_minions, most_syndics, most_levels}
 use Rattle.fleet_config.specs.Causes.{first_cause}
@@ -40,7 +40,7 @@ abbrev pub has_level : Tree → Option ℕ → Bool
 has_level t None = true
 has_level t (Some place) = nat_lt (level t place) most_levels
 
--- What must hold of a node that is added, in order, each with the fault where it does not.
+-- what must hold of a node that is added, in order, each with the fault where it does not
 abbrev pub node_tests : Tree → FleetNode → List (Bool × NodeFault)
 node_tests t node =
     (is_top node.role || nat_lt 0 (length t), NoTop)
@@ -54,3 +54,7 @@ node_tests t node =
 -- why a node is not added, if it is not
 abbrev pub node_fault : Tree → FleetNode → Option NodeFault
 node_fault t node = first_cause (node_tests t node)
+
+-- a fault of this node: it is why the node is not added, unless no memory was found
+abbrev pub IsNodeFault : Tree → FleetNode → NodeFault → Type 0
+IsNodeFault t node fault = fault ≢ NoMemory → node_fault t node ≡ Some fault

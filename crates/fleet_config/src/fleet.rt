@@ -1,6 +1,6 @@
 //! A fleet, and the calls on it.
-ghost use Rattle.std.specs.Prelude.{◌≡◌, ◌≢◌, ◌∷◌, [], ◌++◌, ◌<◌, ◌≤◌, ℕ, List, cond, All, Some, None, length, map, position, IfOk, IfErr, IfSome, OnOk, OnErr, Err, ◌↔◌, IsTrue, if◌then◌else◌};
-ghost use Rattle.fleet_config.specs.Places.{HasPlaces};
+ghost use Rattle.std.specs.Prelude.{◌≡◌, ◌∷◌, [], ◌++◌, ◌<◌, ◌≤◌, cond, All, Some, None, length, map, position, IfOk, IfErr, IfSome, OnOk, OnErr, Err, ◌↔◌, IsTrue, if◌then◌else◌};
+ghost use Rattle.fleet_config.specs.Places.{HasPlaces, HasOneMore, FindAlike};
 ghost use Rattle.std.specs.List.{IsDistinct};
 ghost use Rattle.std.specs.Str.{bytes_eq};
 ghost use Rattle.fleet_config.specs.Limits.{most_minions, most_nodes};
@@ -8,7 +8,6 @@ ghost use Rattle.exec_functions.specs.Limits.{AreWithin};
 ghost use Rattle.target_tree.specs.Nodegroups.{is_named};
 ghost use Rattle.target_tree.specs.declared.groups.GroupFault.TheVariants as GroupFault;
 ghost use Rattle.fleet_config.specs.Tree as tree;
-ghost use Rattle.fleet_config.specs.Tree.{IsTree};
 ghost use Rattle.fleet_config.specs.Growth as growth;
 ghost use Rattle.fleet_config.specs.Causes as causes;
 ghost use Rattle.indexmap.specs.IndexMap.{get};
@@ -95,9 +94,8 @@ impl Model for Fleet {
 impl Fleet {
     ghost use Rattle.std.specs.Prelude.{◌==◌};
     ghost use Rattle.fleet_config.specs.Tree.{member};
-    ghost use Rattle.fleet_config.specs.Fleet.{IsFleet, AreLimits, fleet_with, flat_fleet};
-    ghost use Rattle.fleet_config.specs.Growth.{with_node, node_fault};
-    ghost use Rattle.fleet_config.specs.declared.node.NodeFault.TheVariants.{NoMemory};
+    ghost use Rattle.fleet_config.specs.Fleet.{IsFleet, AreLimits, with_limits, with_group, fleet_with, flat_fleet};
+    ghost use Rattle.fleet_config.specs.Growth.{with_node, node_fault, IsNodeFault};
 
     /// A fleet without a node or a nodegroup, whose top may hold 65,535 jobs and whose journals' parts may have 1,073,741,824 bytes.
     pub fn new(alloc: Global) -> Fleet
@@ -140,7 +138,7 @@ impl Fleet {
         ensures ok { IfOk result (λ place. place ≡ length self.old.tree) }
         ensures fleet { OnOk result (self.new ≡ with_node node self.old) }
         ensures err { OnErr result (self.new ≡ self.old) }
-        ensures fault { IfErr result (λ fault. fault ≢ NoMemory → node_fault self.old.tree node ≡ Some fault) }
+        ensures fault { IfErr result (IsNodeFault self.old.tree node) }
         ensures complete { OnOk result (node_fault self.old.tree node ≡ None) }
     {
         if let Some(fault) = self.fault_of(&node) {
@@ -157,7 +155,7 @@ impl Fleet {
     /// Sets how many jobs the top holds at most, 1 to 65,535, and how many bytes a part of a journal has at most, 64 to 1,073,741,824.
     pub fn limits(&mut self, max_jobs: u32, journal_limit: u64)
         requires { AreLimits max_jobs journal_limit }
-        ensures value { self.new ≡ record self.old { max_jobs = max_jobs; journal_limit = journal_limit } }
+        ensures value { self.new ≡ with_limits max_jobs journal_limit self.old }
     {
         self.max_jobs = max_jobs;
         self.journal_limit = journal_limit;
@@ -166,7 +164,7 @@ impl Fleet {
     /// Adds a nodegroup after the others, whose text is read where a target names it. `Twice` comes exactly where the name is there.
     /// After an error the fleet is as before.
     pub fn add_group(&mut self, name: MinionId, text: Text) -> Result<(), GroupFault>
-        ensures groups { OnOk result (self.new ≡ record self.old { groups = self.old.groups ++ (name, text) ∷ [] }) }
+        ensures groups { OnOk result (self.new ≡ with_group name text self.old) }
         ensures err { OnErr result (self.new ≡ self.old) }
         ensures twice { (result ≡ Err GroupFault.Twice) ↔ IsTrue (is_named self.old.groups name) }
     {
@@ -490,9 +488,9 @@ fn push_node(
     place: NodeId,
 ) -> Result<(), AllocError>
     ensures members { OnOk result (members.new.items ≡ members.old.items ++ member ∷ []) }
-    ensures places { OnOk result ((id : List ℕ) → get bytes_eq places.new id ≡ cond (bytes_eq member.id id) (Some place) (get bytes_eq places.old id)) }
+    ensures places { OnOk result (HasOneMore places.old places.new member.id place) }
     ensures err_members { OnErr result (members.new.items ≡ members.old.items) }
-    ensures err_places { OnErr result ((id : List ℕ) → get bytes_eq places.new id ≡ get bytes_eq places.old id) }
+    ensures err_places { OnErr result (FindAlike places.old places.new) }
 {
     let count = members.len();
     let id = member.id;
@@ -518,7 +516,7 @@ fn runs_jobs(role: Role) -> bool
 
 // A node more, where this holds.
 fn push_where(holds: bool, node: NodeId, nodes: &mut Vec<NodeId>) -> Result<(), AllocError>
-    ensures ok { OnOk result (nodes.new.items ≡ nodes.old.items ++ (if holds then node ∷ [] else [])) }
+    ensures ok { OnOk result (nodes.new.items ≡ nodes.old.items ++ cond holds (node ∷ []) []) }
 {
     if holds {
         nodes.push(node)?;
