@@ -69,7 +69,7 @@ impl Model for Node {
 
 impl Node {
     ghost use Rattle.fleet_config.specs.Tree.{member};
-    ghost use Rattle.node_core.specs.Node.{NodeState, message_result, taken_in, reply_answer, stray_of, after_message, after_pub, after_up, pending, pending_down, pending_up, pending_ups, first_node, with_record, RunsBigPattern, runs_next, first_tests, is_neighbour, is_next, may_take, may_record, IsCounted};
+    ghost use Rattle.node_core.specs.Node.{NodeState, message_result, taken_in, reply_answer, after_message, after_pub, after_up, pending, pending_down, pending_up, pending_ups, first_node, with_record, IsTakeFault, runs_next, first_tests, is_neighbour, is_next, may_take, may_record, IsCounted};
     ghost use Rattle.node_core.specs.Node.Answer.{Reply};
     ghost use Rattle.node_core.specs.Records.{jobs, log, jobs_held};
     ghost use Rattle.minion_core.specs.Flat.{job_record, return_of};
@@ -131,8 +131,7 @@ impl Node {
         ensures counted { IfOk result (λ reply. IfSome reply IsCounted) }
         ensures fits { IfOk result (λ reply. IfSome reply Within) }
         ensures err { OnErr result (self.new ≡ self.old) }
-        ensures stray { (cause : _) → IsErrOf result (take.Stray cause) → stray_of fleet.now.tree me from message.now self.old ≡ Some cause }
-        ensures too_big { (leaf : ℕ) → IsErrOf result (take.TooBig leaf) → RunsBigPattern message.now self.old leaf }
+        ensures fault { IfErr result (IsTakeFault fleet.now.tree me from message.now self.old) }
     {
         if let Some(cause) = self.first_stray(fleet, me, from, message) {
             return Err(TakeFault::Stray { cause });
@@ -181,7 +180,7 @@ impl Node {
         ensures err { OnErr result (self.new ≡ self.old) }
         ensures fault { IfErr result (IsPublishFault fleet.now moment (order kind tgt.now fun.now args.now) self.old) }
     {
-        let jobs = self.jobs.as_slice();
+        let jobs = self.jobs();
         let job = order_job(self.alloc, fleet, moment, kind, tgt, fun, args, jobs)?;
         let jid = job.jid;
         self.add_publish(job)?;

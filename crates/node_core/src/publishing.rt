@@ -114,12 +114,14 @@ fn make_job(
     ensures ok { IfOk result (λ job. job ≡ spec.order_job (order kind tgt.now fun.now args.now) tree jid) }
     ensures fits { IfOk result JobFits }
 {
+    let tgt = Text::new(String::from_str(alloc, tgt)?);
+    let _text = tgt.as_str();
     let _micros = jid.micros();
     let _word = fun.as_bytes();
     Ok(Job {
         jid,
         kind,
-        tgt: Text::new(String::from_str(alloc, tgt)?),
+        tgt,
         target: tree,
         fun: fun.copy()?,
         args: copy_items(alloc, args)?,
