@@ -1,6 +1,8 @@
 -- What a buffer holds of a stream, and what each call makes of it.
 use Rattle.std.specs.Prelude.{◌≡◌, ◌⊎◌, ℕ, List, [], ◌∷◌, ◌++◌, Option, Some, None, Result, IsErrOf, refl}
+use Rattle.std.specs.Borrow.{Bor}
 use Rattle.std.specs.Int.{w32, to_be_bytes}
+use Rattle.std.specs.Option.{option_copied}
 use Rattle.std.specs.Coded.{Coded, code_by, coded×, coded_ℕ, coded_list, coded_option}
 use Rattle.salt_frame.specs.Frames.{frame, frames, IsBody, Reads, HasOver}
 use Rattle.salt_frame.specs.declared.fault.FeedFault.{FeedFault}
@@ -62,3 +64,7 @@ pub record TakesNext (old : Held) (taken : Option (List ℕ)) (new : Held) : Typ
   pub stream : (body : List ℕ) → taken ≡ Some body → Lends old body new
   -- a whole frame that is left is the one that is taken
   pub whole : (body more : List ℕ) → IsBody body → old.kept ≡ frame body ++ more → (taken ≡ Some body) × (new.kept ≡ more)
+
+-- what is taken is lent
+abbrev pub LendsNext : Held → Option (Bor (List ℕ)) → Held → Type 0
+LendsNext old lent new = TakesNext old (option_copied lent) new

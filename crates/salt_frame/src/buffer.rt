@@ -1,9 +1,8 @@
 //! The buffer of a stream's bytes.
 ghost use Rattle.std.specs.Prelude.{◌≡◌, ◌⊎◌, [], length, None, OnOk, IsErrOf};
-ghost use Rattle.std.specs.Option.{option_copied};
 ghost use Rattle.std.specs.Borrow.{sem};
 ghost use Rattle.std.specs.Io.BufRead.{Rests};
-ghost use Rattle.salt_frame.specs.Held.{KeepsPiece, Feeds, HoldsOver, AnswersOver, AnswersOverAgain, TakesNext};
+ghost use Rattle.salt_frame.specs.Held.{KeepsPiece, Feeds, HoldsOver, AnswersOver, AnswersOverAgain, LendsNext};
 ghost use Rattle.salt_frame.specs.contracts.buffer.FrameBuf.{the_row};
 
 use crate::FeedFault;
@@ -84,7 +83,7 @@ impl FrameBuf {
     /// Lends the body of the next frame, which counts as taken; None exactly where no whole frame is left. It takes no
     /// memory.
     pub fn next(&mut self) -> Option<&[u8]>
-        ensures* after { sem 𝓛 (Rests the_row self.entry (TakesNext self.old (option_copied result))) }
+        ensures* after { sem 𝓛 (Rests the_row self.entry (LendsNext self.old result)) }
     {
         if self.start == self.ready {
             return None;
