@@ -1,13 +1,12 @@
 -- More of the stream comes, and whole frames that stood there stay.
-use Rattle.std.specs.Prelude.{MatchOption}
 use Rattle.std.proofs.Common.{◌≡◌, ℕ, zero, suc, ◌+◌, ◌-◌, ◌≤◌, Bool, true, false, cond, Result, Ok, Err, is_ok, is_err, List, [], ◌∷◌, ◌++◌, length, take, drop, Option, Some, None, refl, sym, ap, subst, ◌∙◌, append_assoc, arith, length-append}
 use Rattle.std.specs.Int.{w32, to_be_bytes}
 use Rattle.std.specs.List.{AllByRecursion}
 use Rattle.std.proofs.lemmas.List.{drop_at, length-take, length-drop, drop-drop, take-append-drop, take-append-le, drop-append-le, take-take}
 use Rattle.std.proofs.lemmas.List.Concat.{flat_map-cons}
-use Rattle.salt_frame.specs.Frames.{frame, frames, IsBody, IsPartial, IsOver, Splits, HasOver}
+use Rattle.salt_frame.specs.Frames.{frame, frames, IsBody, IsPartial, IsOver, Ends, Splits, HasOver}
 use Rattle.salt_frame.specs.Held.{Held, HoldsRest}
-use Rattle.salt_frame.specs.Inside.{AreFrames, Tail}
+use Rattle.salt_frame.specs.Inside.{AreFrames, IsTail}
 use Rattle.salt_frame.proofs.Readings.{one}
 
 pub frames_join : (xs ys : List (List ℕ)) → frames (xs ++ ys) ≡ frames xs ++ frames ys
@@ -76,7 +75,7 @@ cut_ready s w n d le within o r =
     let same : take (w - s) (drop s (take (w + 4) d)) ≡ take (w - s) (drop s d) = ap (take (w - s)) (cut_at s (w + 4) d (omega arith) room) ∙ take-take (w - s) (w + 4 - s) (drop s d) (omega arith) in
     (r.0, same ∙ r.1, r.2)
 
-pub cut_last : (w n : ℕ) (d : List ℕ) → w ≤ length d → IsOver n (drop w d) → Tail (Some n) (drop w (take (w + 4) d))
+pub cut_last : (w n : ℕ) (d : List ℕ) → w ≤ length d → IsOver n (drop w d) → IsTail (Some n) (drop w (take (w + 4) d))
 cut_last w n d within o =
     let room = over_room w n d within o in
     let k : w + 4 - w ≡ 4 = omega arith in
@@ -106,10 +105,10 @@ pub record Fed (s w w' : ℕ) (over : Option ℕ) (bs piece d : List ℕ) : Type
   pub next : w ≤ w'
   pub within : w' ≤ length d
   pub ready : AreFrames (take (w' - s) (drop s d))
-  pub last : MatchOption over (IsPartial (drop w' d)) (λ n. IsOver n (drop w' d))
+  pub last : Ends over (drop w' d)
 
 pub fed : (s w w' : ℕ) (over : Option ℕ) (bs piece d dd : List ℕ) (b : Bool) → d ≡ cond b (bs ++ piece) bs → b ≡ true → dd ≡ d → s ≤ w → w ≤ length bs → AreFrames (take (w - s) (drop s bs))
-    → (w ≤ w') × (w' ≤ length dd) → AreFrames (take (w' - w) (drop w dd)) → MatchOption over (IsPartial (drop w' dd)) (λ n. IsOver n (drop w' dd)) → Fed s w w' over bs piece d
+    → (w ≤ w') × (w' ≤ length dd) → AreFrames (take (w' - w) (drop w dd)) → Ends over (drop w' dd) → Fed s w w' over bs piece d
 fed s w w' over bs piece d dd b e ok same le small r within r' last =
     let items : d ≡ bs ++ piece = e ∙ ap (λ t. cond t (bs ++ piece) bs) ok in
     let inside : w' ≤ length d = omega (arith, within.1, ap length same) in
@@ -120,14 +119,14 @@ fed s w w' over bs piece d dd b e ok same le small r within r' last =
       next = within.0;
       within = inside;
       ready = grown s w w' bs piece d items le small within.0 inside r (subst (λ (l : List ℕ). AreFrames (take (w' - w) (drop w l))) same r');
-      last = subst (λ (l : List ℕ). MatchOption over (IsPartial (drop w' l)) (λ n. IsOver n (drop w' l))) same last;
+      last = subst (λ (l : List ℕ). Ends over (drop w' l)) same last;
     }
 
-pub over_of : (w' n : ℕ) (over : Option ℕ) (d : List ℕ) → over ≡ Some n → MatchOption over (IsPartial (drop w' d)) (λ n. IsOver n (drop w' d)) → IsOver n (drop w' d)
-over_of w' n over d e h = subst (λ (o : Option ℕ). MatchOption o (IsPartial (drop w' d)) (λ n. IsOver n (drop w' d))) e h
+pub over_of : (w' n : ℕ) (over : Option ℕ) (d : List ℕ) → over ≡ Some n → Ends over (drop w' d) → IsOver n (drop w' d)
+over_of w' n over d e h = subst (λ (o : Option ℕ). Ends o (drop w' d)) e h
 
-pub partial_of : (w' : ℕ) (over : Option ℕ) (d : List ℕ) → over ≡ None → MatchOption over (IsPartial (drop w' d)) (λ n. IsOver n (drop w' d)) → IsPartial (drop w' d)
-partial_of w' over d e h = subst (λ (o : Option ℕ). MatchOption o (IsPartial (drop w' d)) (λ n. IsOver n (drop w' d))) e h
+pub partial_of : (w' : ℕ) (over : Option ℕ) (d : List ℕ) → over ≡ None → Ends over (drop w' d) → IsPartial (drop w' d)
+partial_of w' over d e h = subst (λ (o : Option ℕ). Ends o (drop w' d)) e h
 
 pub feed_kept : (s : ℕ) (bs piece d : List ℕ) → d ≡ bs ++ piece → s ≤ length bs → drop s d ≡ drop s bs ++ piece
 feed_kept s bs piece d e small = ap (drop s) e ∙ drop-append-le s bs piece small

@@ -1,8 +1,12 @@
 -- What a buffer holds of a stream, and what each call makes of it.
-use Rattle.std.specs.Prelude.{◌≡◌, ℕ, List, [], ◌∷◌, ◌++◌, Option, Some, None, refl}
+use Rattle.std.specs.Prelude.{◌≡◌, ◌⊎◌, ℕ, List, [], ◌∷◌, ◌++◌, Option, Some, None, Result, IsErrOf, refl}
+use Rattle.std.specs.Borrow.{Bor}
 use Rattle.std.specs.Int.{w32, to_be_bytes}
+use Rattle.std.specs.Option.{option_copied}
 use Rattle.std.specs.Coded.{Coded, code_by, coded×, coded_ℕ, coded_list, coded_option}
-use Rattle.salt_frame.specs.Frames.{frame, frames, IsBody, Reads}
+use Rattle.salt_frame.specs.Frames.{frame, frames, IsBody, Reads, HasOver}
+use Rattle.salt_frame.specs.declared.fault.FeedFault.{FeedFault}
+use Rattle.salt_frame.specs.declared.fault.FeedFault.TheVariants.{TooLarge, NoMemory}
 
 -- the bytes after the frames that were taken, and the length over the limit that came
 pub record Held : Type 0 where
@@ -25,6 +29,25 @@ pub record HoldsRest (stream : List ℕ) (taken : List (List ℕ)) (h : Held) : 
   pub reads : Reads stream (taken ++ others) h.over rest
   pub kept : h.kept ≡ frames others ++ kept_of h.over rest
 
+-- where no length over the limit came, the piece is kept after the bytes before it, and no frame of these is taken
+abbrev pub KeepsPiece : Held → List ℕ → Held → Type 0
+KeepsPiece old piece new =
+    (old.over ≡ None) × (new ≡ record { kept = old.kept ++ piece; over = None }) × HoldsRest (old.kept ++ piece) [] new
+
+-- a length over the limit that is answered for the first time is held, after the frames before it
+abbrev pub HoldsOver : {A : Type 0} → Held → List ℕ → Held → Result A FeedFault → Type 0
+HoldsOver old piece new result = (n : ℕ) → IsErrOf result (TooLarge n) → old.over ≡ None
+    → (new.over ≡ Some n) × HoldsRest (old.kept ++ piece) [] new
+
+-- a length over the limit in what is kept and the piece is answered, unless memory runs out
+abbrev pub AnswersOver : {A : Type 0} → Held → List ℕ → Result A FeedFault → Type 0
+AnswersOver old piece result = (n : ℕ) → old.over ≡ None → HasOver n (old.kept ++ piece)
+    → IsErrOf result (TooLarge n) ⊎ IsErrOf result NoMemory
+
+-- a length over the limit that is held is answered again, and nothing changes
+abbrev pub AnswersOverAgain : {A : Type 0} → Held → Held → Result A FeedFault → Type 0
+AnswersOverAgain old new result = (n : ℕ) → old.over ≡ Some n → IsErrOf result (TooLarge n) × (new ≡ old)
+
 -- of each stream of which the old holds what was not taken, the new does so once this piece came
 abbrev pub Feeds : Held → List ℕ → Held → Type 0
 Feeds old piece new = (stream : List ℕ) (taken : List (List ℕ)) → HoldsRest stream taken old → HoldsRest (stream ++ piece) taken new
@@ -41,3 +64,7 @@ pub record TakesNext (old : Held) (taken : Option (List ℕ)) (new : Held) : Typ
   pub stream : (body : List ℕ) → taken ≡ Some body → Lends old body new
   -- a whole frame that is left is the one that is taken
   pub whole : (body more : List ℕ) → IsBody body → old.kept ≡ frame body ++ more → (taken ≡ Some body) × (new.kept ≡ more)
+
+-- what is taken is lent
+abbrev pub LendsNext : Held → Option (Bor (List ℕ)) → Held → Type 0
+LendsNext old lent new = TakesNext old (option_copied lent) new

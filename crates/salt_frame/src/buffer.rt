@@ -1,11 +1,9 @@
 //! The buffer of a stream's bytes.
-ghost use Rattle.std.specs.Prelude.{◌≡◌, ◌⊎◌, ℕ, [], ◌++◌, length, None, Some, OnOk, IsErrOf, ⊤};
-ghost use Rattle.std.specs.Option.{option_copied};
-ghost use Rattle.std.specs.Borrow.{sem, follows_so};
-ghost use Rattle.salt_frame.specs.Frames.{HasOver};
-ghost use Rattle.salt_frame.specs.Held.{HoldsRest, Feeds, TakesNext};
+ghost use Rattle.std.specs.Prelude.{◌≡◌, ◌⊎◌, [], length, None, OnOk, IsErrOf};
+ghost use Rattle.std.specs.Borrow.{sem};
+ghost use Rattle.std.specs.Io.BufRead.{Rests};
+ghost use Rattle.salt_frame.specs.Held.{KeepsPiece, Feeds, HoldsOver, AnswersOver, AnswersOverAgain, LendsNext};
 ghost use Rattle.salt_frame.specs.contracts.buffer.FrameBuf.{the_row};
-ghost use mathlib.Core.Option.{none};
 
 use crate::FeedFault;
 use crate::front::{LENGTH_SIZE, length_of, scan};
@@ -58,12 +56,12 @@ impl FrameBuf {
     /// over 1,048,576: the frames before it can still be taken, all bytes after it are dropped, and each later feed
     /// answers it again. `NoMemory` leaves the buffer as it was.
     pub fn feed(&mut self, piece: &[u8]) -> Result<(), FeedFault>
-        ensures ok { OnOk result ((self.old.over ≡ None) × (self.new ≡ record { kept = self.old.kept ++ piece.now; over = None }) × HoldsRest (self.old.kept ++ piece.now) [] self.new) }
-        ensures too_large { (n : ℕ) → IsErrOf result (FeedFault.TooLarge n) → self.old.over ≡ None → (self.new.over ≡ Some n) × HoldsRest (self.old.kept ++ piece.now) [] self.new }
-        ensures complete { (n : ℕ) → self.old.over ≡ None → HasOver n (self.old.kept ++ piece.now) → IsErrOf result (FeedFault.TooLarge n) ⊎ IsErrOf result FeedFault.NoMemory }
-        ensures again { (n : ℕ) → self.old.over ≡ Some n → IsErrOf result (FeedFault.TooLarge n) × (self.new ≡ self.old) }
+        ensures ok { OnOk result (KeepsPiece self.old piece.now self.new) }
         ensures stream { IsErrOf result FeedFault.NoMemory ⊎ Feeds self.old piece.now self.new }
+        ensures too_large { HoldsOver self.old piece.now self.new result }
+        ensures again { AnswersOverAgain self.old self.new result }
         ensures memory { IsErrOf result FeedFault.NoMemory → self.new ≡ self.old }
+        ensures complete { AnswersOver self.old piece.now result }
     {
         if let Some(length) = self.over {
             return Err(FeedFault::TooLarge { length });
@@ -85,7 +83,7 @@ impl FrameBuf {
     /// Lends the body of the next frame, which counts as taken; None exactly where no whole frame is left. It takes no
     /// memory.
     pub fn next(&mut self) -> Option<&[u8]>
-        ensures* after { sem 𝓛 (follows_so the_row the_row self.entry.ghost_name none (λ _ _. ⊤) (λ new. TakesNext self.old (option_copied result) new)) }
+        ensures* after { sem 𝓛 (Rests the_row self.entry (LendsNext self.old result)) }
     {
         if self.start == self.ready {
             return None;

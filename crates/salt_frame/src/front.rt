@@ -1,6 +1,6 @@
 //! What stands at the front of a stream.
-ghost use Rattle.std.specs.Prelude.{◌≡◌, ◌≤◌, ◌-◌, take, drop, length, MatchOption};
-ghost use Rattle.salt_frame.specs.Frames.{length_at, IsPartial, IsOver};
+ghost use Rattle.std.specs.Prelude.{◌≡◌, ◌≤◌, ◌-◌, take, drop, length};
+ghost use Rattle.salt_frame.specs.Frames.{length_at, Ends};
 ghost use Rattle.salt_frame.specs.Fronts.{IsFront};
 ghost use Rattle.salt_frame.specs.Inside.{AreFrames};
 
@@ -51,7 +51,7 @@ pub fn scan(bytes: &[u8], from: usize) -> (usize, Option<u32>)
     requires { from ≤ length bytes.now }
     ensures within { (from ≤ result.0) × (result.0 ≤ length bytes.now) }
     ensures frames { AreFrames (take (result.0 - from) (drop from bytes.now)) }
-    ensures last { MatchOption result.1 (IsPartial (drop result.0 bytes.now)) (λ n. IsOver n (drop result.0 bytes.now)) }
+    ensures last { Ends result.1 (drop result.0 bytes.now) }
 {
     let mut at = from;
     loop {

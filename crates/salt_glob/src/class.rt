@@ -1,8 +1,9 @@
 //! The classes of a pattern.
-ghost use Rattle.std.specs.Prelude.{◌≡◌, ◌≤◌, ◌<◌, ◌+◌, ◌==◌, ◌&&◌, ◌||◌, ℕ, nat_le, nat_lt, length, drop, position, slice_index, IfSome, IsTrue, ◌↔◌};
+ghost use Rattle.std.specs.Prelude.{◌≡◌, ◌≤◌, ◌<◌, ◌+◌, ◌==◌, ◌&&◌, ℕ, nat_le, nat_lt, length, drop, IfSome, IsTrue, ◌↔◌};
 ghost use Rattle.std.specs.List.{list_any};
-ghost use Rattle.std.specs.Option.{option_map};
 ghost use Rattle.salt_glob.specs.Classes as spec;
+ghost use Rattle.salt_glob.specs.Classes.{class_after};
+ghost use Rattle.salt_glob.specs.Places.{class_found, IsClosed, IsClassFrom, BeginsRange, IsToldFrom};
 
 use crate::folded::Folded;
 
@@ -18,8 +19,8 @@ pub struct Class {
 fn closed_at(pattern: &Folded, negated: bool, first: usize, last: usize) -> Option<Class>
     requires bound { last ≤ length pattern.now }
     requires closes { (k : ℕ) → list_any (λ b. b == 93) (drop k pattern.now) ≡ nat_lt k last }
-    ensures value { option_map (spec.class_in pattern.now) result ≡ spec.class_after negated (drop first pattern.now) }
-    ensures places { IfSome result (λ c. (c.negated ≡ negated) × (c.first ≡ first) × (c.first < c.end) × (c.end < length pattern.now)) }
+    ensures value { class_found pattern.now result ≡ class_after negated (drop first pattern.now) }
+    ensures places { IfSome result (IsClosed negated first pattern.now) }
 {
     if last < 2 {
         return None;
@@ -42,8 +43,8 @@ pub fn class_at(pattern: &Folded, from: usize, last: usize) -> Option<Class>
     requires from { from ≤ length pattern.now }
     requires bound { last ≤ length pattern.now }
     requires closes { (k : ℕ) → list_any (λ b. b == 93) (drop k pattern.now) ≡ nat_lt k last }
-    ensures value { option_map (spec.class_in pattern.now) result ≡ spec.class_of (drop from pattern.now) }
-    ensures places { IfSome result (λ c. (from ≤ c.first) × (c.first < c.end) × (c.end < length pattern.now) × (c.end + 1 ≡ from + spec.class_size (spec.class_in pattern.now c))) }
+    ensures value { class_found pattern.now result ≡ spec.class_of (drop from pattern.now) }
+    ensures places { IfSome result (IsClassFrom from pattern.now) }
 {
     if from < pattern.len() && pattern.at(from) == b'!' {
         closed_at(pattern, true, from + 1, last)
@@ -55,7 +56,7 @@ pub fn class_at(pattern: &Folded, from: usize, last: usize) -> Option<Class>
 // Whether a range begins at a place of the members.
 fn is_range(members: &Folded, at: usize) -> bool
     requires { at < length members.now }
-    ensures { IsTrue result ↔ ((at + 2 < length members.now) × (slice_index members.now (at + 1) ≡ 45)) }
+    ensures { IsTrue result ↔ BeginsRange members.now at }
 {
     members.len() - at > 2 && members.at(at + 1) == b'-'
 }
@@ -63,7 +64,7 @@ fn is_range(members: &Folded, at: usize) -> bool
 // Whether the member or range at a place has the byte, and how many bytes it takes.
 fn front(members: &Folded, at: usize, byte: u8) -> (bool, usize)
     requires { at < length members.now }
-    ensures value { spec.is_member byte (drop at members.now) ≡ (result.0 || spec.is_member byte (drop (at + result.1) members.now)) }
+    ensures value { IsToldFrom byte members.now at result }
     ensures some { 0 < result.1 }
     ensures within { at + result.1 ≤ length members.now }
 {

@@ -1,7 +1,8 @@
 //! A pattern or a text as a matcher reads it.
-ghost use Rattle.std.specs.Prelude.{◌≡◌, ◌≢◌, ◌≤◌, ◌<◌, ◌^◌, ◌==◌, ℕ, List, nat_lt, length, drop, position, slice_index, slice_range, IfSome, IfNone};
+ghost use Rattle.std.specs.Prelude.{◌≡◌, ◌≤◌, ◌<◌, ◌^◌, ◌==◌, ℕ, List, true, false, nat_lt, length, drop, position, slice_index, slice_range, IfSome, IfNone};
 ghost use Rattle.std.specs.List.{list_any, list_all};
 ghost use Rattle.salt_glob.specs.Lowered.{lower_case, matcher_bytes};
+ghost use Rattle.salt_glob.specs.Places.{PassesFrom, LacksFrom, PassesTo, LacksByte};
 
 use memchr::{memchr, memchr2};
 use std::marker::Model;
@@ -108,8 +109,8 @@ impl<'a> Folded<'a> {
     #[inline(always)]
     pub fn place_of(&self, byte: u8, from: usize) -> Option<usize>
         requires { from ≤ length self.now }
-        ensures some { IfSome result (λ n. (from ≤ n) × (n < length self.now) × ((k : ℕ) → from ≤ k → k < n → slice_index self.now k ≢ byte)) }
-        ensures none { IfNone result ((k : ℕ) → from ≤ k → k < length self.now → slice_index self.now k ≢ byte) }
+        ensures some { IfSome result (PassesFrom byte self.now from) }
+        ensures none { IfNone result (LacksFrom byte self.now from) }
     {
         let n = before(&self.bytes[from..], byte, self.is_caseless)?;
         Some(from + n)
@@ -144,8 +145,8 @@ fn are_stars(bytes: &[u8]) -> bool
 // A place before which no byte is read as this one, or None where none is.
 #[inline(always)]
 fn before(bytes: &[u8], byte: u8, is_caseless: bool) -> Option<usize>
-    ensures some { IfSome result (λ n. (n < length bytes.now) × ((k : ℕ) → k < n → slice_index (matcher_bytes is_caseless bytes.now) k ≢ byte)) }
-    ensures none { IfNone result ((k : ℕ) → k < length bytes.now → slice_index (matcher_bytes is_caseless bytes.now) k ≢ byte) }
+    ensures some { IfSome result (PassesTo is_caseless byte bytes.now) }
+    ensures none { IfNone result (LacksByte is_caseless byte bytes.now) }
 {
     if is_caseless {
         before_either(bytes, byte)
@@ -156,16 +157,16 @@ fn before(bytes: &[u8], byte: u8, is_caseless: bool) -> Option<usize>
 
 #[inline(always)]
 fn before_one(bytes: &[u8], byte: u8) -> Option<usize>
-    ensures some { IfSome result (λ n. (n < length bytes.now) × ((k : ℕ) → k < n → slice_index bytes.now k ≢ byte)) }
-    ensures none { IfNone result ((k : ℕ) → k < length bytes.now → slice_index bytes.now k ≢ byte) }
+    ensures some { IfSome result (PassesTo false byte bytes.now) }
+    ensures none { IfNone result (LacksByte false byte bytes.now) }
 {
     memchr(byte, bytes)
 }
 
 #[inline(always)]
 fn before_either(bytes: &[u8], byte: u8) -> Option<usize>
-    ensures some { IfSome result (λ n. (n < length bytes.now) × ((k : ℕ) → k < n → slice_index (lower_case bytes.now) k ≢ byte)) }
-    ensures none { IfNone result ((k : ℕ) → k < length bytes.now → slice_index (lower_case bytes.now) k ≢ byte) }
+    ensures some { IfSome result (PassesTo true byte bytes.now) }
+    ensures none { IfNone result (LacksByte true byte bytes.now) }
 {
     memchr2(byte, byte.to_ascii_uppercase(), bytes)
 }

@@ -1,8 +1,9 @@
 //! Whether a pattern holds for a text.
-ghost use Rattle.std.specs.Prelude.{◌≡◌, ◌≤◌, ◌<◌, ◌+◌, ◌==◌, None, Some, IfSome, IfNone, ◌↔◌, ℕ, nat_lt, [], length, drop, slice_index, IsTrue};
+ghost use Rattle.std.specs.Prelude.{◌≡◌, ◌≤◌, ◌<◌, ◌+◌, ◌==◌, IfSome, IfNone, ◌↔◌, ℕ, nat_lt, [], length, drop, slice_index, IsTrue};
 ghost use Rattle.std.specs.List.{list_any, list_all};
 ghost use Rattle.salt_glob.specs.Globs as spec;
 ghost use Rattle.salt_glob.specs.Lowered.{lower_case, glob_caseless};
+ghost use Rattle.salt_glob.specs.Places.{TakesByte, RefusesByte, StartsFrom, NeverStarts};
 
 use crate::class::{class_at, is_member};
 use crate::folded::Folded;
@@ -41,8 +42,8 @@ fn taken(pattern: &Folded, at: usize, last: usize, byte: u8) -> Option<usize>
 fn taken_or_end(pattern: &Folded, at: usize, last: usize, byte: u8) -> Option<usize>
     requires bound { last ≤ length pattern.now }
     requires closes { (k : ℕ) → list_any (λ b. b == 93) (drop k pattern.now) ≡ nat_lt k last }
-    ensures some { IfSome result (λ n. (at < length pattern.now) × (spec.bytes_taken (spec.piece_at pattern.now at) byte ≡ Some n) × (at + n ≤ length pattern.now)) }
-    ensures none { IfNone result (at < length pattern.now → spec.bytes_taken (spec.piece_at pattern.now at) byte ≡ None) }
+    ensures some { IfSome result (TakesByte pattern.now at byte) }
+    ensures none { IfNone result (RefusesByte pattern.now at byte) }
 {
     if at < pattern.len() {
         taken(pattern, at, last, byte)
@@ -65,8 +66,8 @@ fn are_stars(pattern: &Folded, from: usize) -> bool
 fn next_start(pattern: &Folded, text: &Folded, after: usize, from: usize) -> Option<usize>
     requires after { after < length pattern.now }
     requires from { from ≤ length text.now }
-    ensures some { IfSome result (λ n. (from ≤ n) × (n ≤ length text.now) × ((u : ℕ) → from ≤ u → u < n → spec.MatchesAt pattern.now text.now after u → ⊥)) }
-    ensures none { IfNone result ((u : ℕ) → from ≤ u → spec.MatchesAt pattern.now text.now after u → ⊥) }
+    ensures some { IfSome result (StartsFrom pattern.now text.now after from) }
+    ensures none { IfNone result (NeverStarts pattern.now text.now after from) }
 {
     let byte = pattern.at(after);
     if byte == b'*' {

@@ -13,5 +13,6 @@ pub mod FitTests
 pub mod MemberFits
 pub mod Ascending
 pub mod SameLists
+pub mod SameValues
 pub mod Whole
 pub mod FaultLaws

@@ -15,10 +15,12 @@ pub mod WellFormed
 pub mod FitTest
 pub mod Same
 pub mod PairChanges
-pub mod Room
-pub mod Reading
-pub mod Readers
-pub mod Decoding
 pub mod FirstFault
+pub mod Readers
+pub mod Reading
+pub mod Decoding
+pub mod RoundTrips
+pub mod Room
+pub mod Parts
 pub mod Sides
 pub mod formers

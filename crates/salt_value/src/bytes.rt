@@ -1,9 +1,10 @@
 //! Numbers and texts as bytes.
-ghost use Rattle.std.specs.Prelude.{◌≡◌, ◌<◌, ◌^◌, ◌++◌, List, ℕ, length, true, false, MatchOption, OnOk, OnErr};
+ghost use Rattle.std.specs.Prelude.{◌≡◌, ◌<◌, ◌^◌, ◌++◌, List, ℕ, length, false, MatchOption, OnOk, OnErr};
 ghost use Rattle.std.specs.Int.{w8, w16, w32, w64, to_be_bytes};
 ghost use Rattle.std.specs.Str.{is_utf8};
 ghost use Rattle.salt_value.specs.Decoding as spec;
 ghost use Rattle.salt_value.specs.Decoding.{Returns};
+ghost use Rattle.salt_value.specs.Parts.{IsUtf8Of};
 ghost use Rattle.salt_value.specs.Spelling as spelling;
 
 use byteorder::{BigEndian, ByteOrder};
@@ -54,7 +55,7 @@ pub fn u64_or<F: Copy>(bytes: &[u8], short: F) -> Result<(u64, &[u8]), F>
 
 // The text that the bytes are, if they are UTF-8.
 fn text_in(bytes: &[u8]) -> Option<&str>
-    ensures { MatchOption result (is_utf8 bytes.now ≡ false) (λ s. (is_utf8 bytes.now ≡ true) × (s.now ≡ bytes.now)) }
+    ensures { MatchOption result (is_utf8 bytes.now ≡ false) (λ s. IsUtf8Of bytes.now s.now) }
 {
     match std::str::from_utf8(bytes) {
         Ok(text) => Some(text),

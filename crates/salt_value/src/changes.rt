@@ -93,12 +93,10 @@ fn without_key(alloc: Global, fields: &Fields, key: &str) -> Result<Fields, Allo
 }
 
 impl Pairs<Value> {
-    ghost use Rattle.std.specs.Prelude.{◌≡◌, ◌≢◌, ◌<◌, ◌≤◌, ◌↔◌, false, IsTrue, length, IfOk};
+    ghost use Rattle.std.specs.Prelude.{◌≡◌, ◌↔◌, false, IsTrue, IfOk};
     ghost use Rattle.salt_value.specs.PairChanges.{with_pair, without_key};
-    ghost use Rattle.salt_value.specs.WellFormed.{ValueFits, depth};
+    ghost use Rattle.salt_value.specs.WellFormed.{ValueFits};
     ghost use Rattle.salt_value.specs.FitTest as test;
-    ghost use Rattle.salt_value.specs.Limits.{most_value_levels, most_value_bytes};
-    ghost use Rattle.salt_value.specs.Spelling.{bytes};
     ghost use Rattle.salt_value.specs.declared.value.Value.TheVariants as v;
 
     /// Equal pairs in memory of their own.
@@ -127,7 +125,7 @@ impl Pairs<Value> {
     pub fn fits(&self) -> bool
         ensures ok { IsTrue result ↔ ValueFits (v.Map self.now) }
         // A map that is refused is too deep or too large.
-        ensures large { result ≡ false → depth (v.Map self.now) ≤ most_value_levels → most_value_bytes < length (bytes (v.Map self.now)) }
+        ensures large { result ≡ false → test.IsPastLimits (v.Map self.now) }
         ensures exact { result ≡ test.fits (v.Map self.now) }
     {
         fits::after_map(self, MOST_VALUE_LEVELS, MOST_VALUE_BYTES).is_some()

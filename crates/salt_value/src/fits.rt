@@ -1,10 +1,9 @@
 //! Whether a value is within the limits of its bytes.
-ghost use Rattle.std.specs.Prelude.{◌≡◌, ◌≤◌, ◌+◌, ◌++◌, ◌&&◌, ◌↔◌, IsTrue, true, length, map};
+ghost use Rattle.std.specs.Prelude.{◌≡◌, ◌≤◌, ◌↔◌, IsTrue, true, length};
 ghost use Rattle.salt_value.specs.Spelling as spelling;
-ghost use Rattle.salt_value.specs.Spelling.{bytes, concatenation, pairs_spelling, spelled_pairs};
-ghost use Rattle.salt_value.specs.WellFormed.{ValueFits, IsWellFormed, AllWellFormed, PairsWellFormed, is_int, is_text, well_formed, depth, greatest};
+ghost use Rattle.salt_value.specs.WellFormed.{ValueFits, is_int, is_text};
 ghost use Rattle.salt_value.specs.FitTest as test;
-ghost use Rattle.salt_value.specs.Room.{Leaves};
+ghost use Rattle.salt_value.specs.Room.{Leaves, LeavesAfterValue, LeavesAfterItems, LeavesAfterPair, LeavesAfterPairs};
 ghost use Rattle.salt_value.specs.declared.value.Value.TheVariants as v;
 
 use crate::limits::{MOST_VALUE_BYTES, MOST_VALUE_LEVELS};
@@ -33,7 +32,7 @@ fn after_text(text: &str, room: usize) -> Option<usize>
 #[cycle(fits)]
 pub fn after(value: &Value, levels: usize, room: usize) -> Option<usize>
     requires { room ≤ 65536 }
-    ensures { Leaves (IsWellFormed value.now) (depth value.now) levels (length (bytes value.now)) room result }
+    ensures { LeavesAfterValue value.now levels room result }
 {
     if levels == 0 || room == 0 {
         return None;
@@ -52,7 +51,7 @@ pub fn after(value: &Value, levels: usize, room: usize) -> Option<usize>
 #[cycle(fits)]
 fn after_items(items: &[Value], levels: usize, room: usize) -> Option<usize>
     requires { room ≤ 65536 }
-    ensures { Leaves (AllWellFormed items.now) (greatest (map depth items.now)) levels (5 + length (concatenation (map bytes items.now))) room result }
+    ensures { LeavesAfterItems items.now levels room result }
 {
     if room < 5 {
         return None;
@@ -71,7 +70,7 @@ fn after_items(items: &[Value], levels: usize, room: usize) -> Option<usize>
 #[cycle(fits)]
 fn after_pair(key: &str, value: &Value, levels: usize, room: usize) -> Option<usize>
     requires { room ≤ 65536 }
-    ensures { Leaves ((is_text key.now && well_formed value.now) ≡ true) (depth value.now) levels (length (spelling.text key.now ++ bytes value.now)) room result }
+    ensures { LeavesAfterPair key.now value.now levels room result }
 {
     let Some(rest) = after_text(key, room) else {
         return None;
@@ -83,7 +82,7 @@ fn after_pair(key: &str, value: &Value, levels: usize, room: usize) -> Option<us
 #[cycle(fits)]
 fn after_pairs(pairs: &[(Text, Value)], levels: usize, room: usize) -> Option<usize>
     requires { room ≤ 65536 }
-    ensures { Leaves (PairsWellFormed pairs.now) (greatest (map (λ p. depth p.1) pairs.now)) levels (5 + length (pairs_spelling (spelled_pairs pairs.now))) room result }
+    ensures { LeavesAfterPairs pairs.now levels room result }
 {
     if room < 5 {
         return None;
@@ -101,7 +100,7 @@ fn after_pairs(pairs: &[(Text, Value)], levels: usize, room: usize) -> Option<us
 // The room that is left after a map of these pairs, which may have so many levels.
 pub fn after_map(fields: &Fields, levels: usize, room: usize) -> Option<usize>
     requires { room ≤ 65536 }
-    ensures { Leaves (IsWellFormed (v.Map fields.now)) (depth (v.Map fields.now)) levels (length (bytes (v.Map fields.now))) room result }
+    ensures { LeavesAfterValue (v.Map fields.now) levels room result }
 {
     if levels == 0 || room == 0 {
         return None;
@@ -112,7 +111,7 @@ pub fn after_map(fields: &Fields, levels: usize, room: usize) -> Option<usize>
 // The room that is left after a list of these items, which may have so many levels.
 fn after_list(items: &[Value], levels: usize, room: usize) -> Option<usize>
     requires { room ≤ 65536 }
-    ensures { Leaves (IsWellFormed (v.List items.now)) (depth (v.List items.now)) levels (length (bytes (v.List items.now))) room result }
+    ensures { LeavesAfterValue (v.List items.now) levels room result }
 {
     if levels == 0 || room == 0 {
         return None;

@@ -3,8 +3,9 @@ ghost use Rattle.std.specs.Prelude.{◌≡◌, None};
 ghost use Rattle.std.specs.Option.{option_copied};
 ghost use Rattle.salt_value.specs.Keys.{comes_after, before};
 ghost use Rattle.salt_value.specs.Decoding as spec;
-ghost use Rattle.salt_value.specs.Readers.{Gives, Answers, several};
-ghost use Rattle.salt_value.specs.declared.fault.Misread.TheVariants.{NoMemory};
+ghost use Rattle.salt_value.specs.Decoding.{after_tag};
+ghost use Rattle.salt_value.specs.Readers.{Answers, several};
+ghost use Rattle.salt_value.specs.Parts.{ReadsPart, ReadsPair};
 ghost use Rattle.salt_value.specs.declared.fault.ValueFault.TheVariants as faults;
 ghost use Rattle.salt_value.specs.Tags.{tag_of};
 ghost use Rattle.salt_value.specs.FirstFault.{value_fault};
@@ -17,14 +18,14 @@ use crate::value::{Fields, Items, Value};
 use std::alloc::Global;
 
 fn int_at(bytes: &[u8]) -> Result<(i64, &[u8]), Misread>
-    ensures { Gives NoMemory (λ x. (x.0, x.1.now)) result (spec.int_at bytes.now) }
+    ensures { ReadsPart result (spec.int_at bytes.now) }
 {
     let (number, rest) = u64_or(bytes, Misread::Short)?;
     Ok((number.cast_signed(), rest))
 }
 
 fn text_at(alloc: Global, bytes: &[u8]) -> Result<(Text, &[u8]), Misread>
-    ensures { Gives NoMemory (λ x. (x.0, x.1.now)) result (spec.text_at bytes.now) }
+    ensures { ReadsPart result (spec.text_at bytes.now) }
 {
     let bad = Misread::NotUtf8(bytes.len().saturating_sub(4));
     let (text, rest) = text_or(bytes, Misread::Short, bad)?;
@@ -53,7 +54,7 @@ fn key_at<'b>(
     last: Option<&[u8]>,
     bytes: &'b [u8],
 ) -> Result<(Text, &'b [u8]), Misread>
-    ensures { Gives NoMemory (λ x. (x.0, x.1.now)) result (spec.key_at (option_copied last.entry) bytes.now) }
+    ensures { ReadsPart result (spec.key_at (option_copied last.entry) bytes.now) }
 {
     let (key, rest) = text_at(alloc, bytes)?;
     if !may_follow(last, key.as_bytes()) {
@@ -66,7 +67,7 @@ fn key_at<'b>(
 #[cycle(reading)]
 #[tactic(auto, using(crate::proofs::ReadLemmas::value_at_steps))]
 fn value_at(alloc: Global, levels: usize, bytes: &[u8]) -> Result<(Value, &[u8]), Misread>
-    ensures { Gives NoMemory (λ x. (x.0, x.1.now)) result (spec.value_at levels bytes.now) }
+    ensures { ReadsPart result (spec.value_at levels bytes.now) }
 {
     if levels == 0 {
         return Err(Misread::TooDeep);
@@ -81,7 +82,7 @@ fn value_at(alloc: Global, levels: usize, bytes: &[u8]) -> Result<(Value, &[u8])
 #[cycle(reading)]
 #[tactic(auto, unfolding(crate::specs::Decoding::after_tag))]
 fn tagged(alloc: Global, levels: usize, tag: u8, bytes: &[u8]) -> Result<(Value, &[u8]), Misread>
-    ensures { Gives NoMemory (λ x. (x.0, x.1.now)) result (spec.after_tag levels (spec.value_at levels) (tag_of tag) bytes.now) }
+    ensures { ReadsPart result (after_tag levels (spec.value_at levels) (tag_of tag) bytes.now) }
 {
     match tag {
         0x00 => Ok((Value::Null, bytes)),
@@ -117,7 +118,7 @@ fn items_at(
     count: u32,
     bytes: &[u8],
 ) -> Result<(Items, &[u8]), Misread>
-    ensures { Gives NoMemory (λ x. (x.0, x.1.now)) result (several (spec.value_at levels) count bytes.now) }
+    ensures { ReadsPart result (several (spec.value_at levels) count bytes.now) }
 {
     let mut items = Items::new(alloc);
     let mut rest = bytes;
@@ -138,7 +139,7 @@ fn pair_at<'b>(
     last: Option<&[u8]>,
     bytes: &'b [u8],
 ) -> Result<(Text, Value, &'b [u8]), Misread>
-    ensures { Gives NoMemory (λ x. ((x.0, x.1), x.2.now)) result (spec.pair_at levels (spec.value_at levels) (option_copied last.entry) bytes.now) }
+    ensures { ReadsPair levels (option_copied last.entry) bytes.now result }
 {
     if levels == 0 {
         return Err(Misread::TooDeep);
@@ -156,7 +157,7 @@ fn pairs_at(
     count: u32,
     bytes: &[u8],
 ) -> Result<(Fields, &[u8]), Misread>
-    ensures { Gives NoMemory (λ x. (x.0, x.1.now)) result (spec.pairs_at levels (spec.value_at levels) None count bytes.now) }
+    ensures { ReadsPart result (spec.pairs_at levels (spec.value_at levels) None count bytes.now) }
 {
     let mut fields = Fields::new(alloc);
     let mut rest = bytes;

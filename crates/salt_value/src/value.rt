@@ -25,18 +25,17 @@ pub enum Value {
 }
 
 impl Value {
-    ghost use Rattle.std.specs.Prelude.{◌≡◌, ◌≢◌, ◌<◌, ◌≤◌, ◌↔◌, ◌++◌, ℕ, false, IsTrue, List, length, Ok, Err, IfOk, IfErr, OnOk, OnErr};
+    ghost use Rattle.std.specs.Prelude.{◌≡◌, ◌≢◌, ◌≤◌, ◌↔◌, ◌++◌, false, IsTrue, length, IfOk, IfErr, OnOk, OnErr};
     ghost use Rattle.std.specs.Option.{option_copied};
     ghost use Rattle.salt_value.specs.Scalar.{scalar_text};
     ghost use Rattle.salt_value.specs.Child.{child};
     ghost use Rattle.salt_value.specs.Spelling.{bytes};
-    ghost use Rattle.salt_value.specs.WellFormed.{ValueFits, depth};
+    ghost use Rattle.salt_value.specs.WellFormed.{ValueFits};
     ghost use Rattle.salt_value.specs.FitTest as test;
-    ghost use Rattle.salt_value.specs.Limits.{most_value_levels, most_value_bytes};
     ghost use Rattle.salt_value.specs.Readers.{Answers};
+    ghost use Rattle.salt_value.specs.Reading.{BeginsWith, AnswersValue, AnswersFault};
     ghost use Rattle.salt_value.specs.Decoding.{read_at};
     ghost use Rattle.salt_value.specs.FirstFault.{FirstFault};
-    ghost use Rattle.salt_value.specs.declared.value.Value.{Value};
     ghost use Rattle.salt_value.specs.declared.fault.ValueFault.{ValueFault};
 
     /// An equal value in memory of its own.
@@ -78,7 +77,7 @@ impl Value {
     pub fn fits(&self) -> bool
         ensures ok { IsTrue result ↔ ValueFits self.now }
         // A value that is refused is too deep or too large.
-        ensures large { result ≡ false → depth self.now ≤ most_value_levels → most_value_bytes < length (bytes self.now) }
+        ensures large { result ≡ false → test.IsPastLimits self.now }
         ensures exact { result ≡ test.fits self.now }
     {
         fits::after(self, MOST_VALUE_LEVELS, MOST_VALUE_BYTES).is_some()
@@ -97,14 +96,14 @@ impl Value {
     /// at, and the first fault from the left is answered.
     pub fn read(alloc: Global, input: &[u8]) -> Result<(Value, usize), ValueFault>
         // What is read is spelled so, and is within the limits.
-        ensures ok { IfOk result (λ x. ValueFits x.0 × (x.1 ≡ length (bytes x.0)) × ((rest : List ℕ) × (input.now ≡ bytes x.0 ++ rest))) }
+        ensures ok { IfOk result (BeginsWith input.now) }
         ensures within { IfOk result (λ x. x.1 ≤ length input.now) }
         // What is spelled so is read, whatever follows it, unless memory runs out.
-        ensures complete { (v : Value) (rest : List ℕ) → ValueFits v → input.now ≡ bytes v ++ rest → Answers ValueFault.NoMemory result (Ok (v, length (bytes v))) }
+        ensures complete { AnswersValue input.now result }
         // A fault that is answered is the first one from the left.
         ensures fault { IfErr result (λ e. e ≢ ValueFault.NoMemory → FirstFault input.now e) }
         // The first fault is answered, unless memory runs out.
-        ensures first { (e : ValueFault) → FirstFault input.now e → Answers ValueFault.NoMemory result (Err e) }
+        ensures first { AnswersFault input.now result }
         // All of this as a function.
         ensures exact { Answers ValueFault.NoMemory result (read_at input.now) }
     {

@@ -1,7 +1,7 @@
 //! Values written as bytes.
-ghost use Rattle.std.specs.Prelude.{◌≡◌, ◌<◌, ◌^◌, ◌++◌, List, ℕ, length, map, OnOk, OnErr};
-ghost use Rattle.std.specs.Int.{w32, to_be_bytes};
-ghost use Rattle.salt_value.specs.Spelling.{bytes, concatenation, pairs_spelling, spelled_pairs};
+ghost use Rattle.std.specs.Prelude.{◌≡◌, ◌<◌, ◌^◌, ◌++◌, List, ℕ, length, OnOk, OnErr};
+ghost use Rattle.salt_value.specs.Spelling.{bytes};
+ghost use Rattle.salt_value.specs.Parts.{counted_items, counted_pairs};
 ghost use Rattle.salt_value.specs.WellFormed.{IsWellFormed, AllWellFormed, PairsWellFormed};
 
 use crate::bytes::{put_text, put_u32, put_u64};
@@ -43,7 +43,7 @@ fn put(out: &mut Vec<u8>, value: &Value) -> Result<(), AllocError>
 #[cycle(writing)]
 fn put_items(out: &mut Vec<u8>, items: &[Value]) -> Result<(), AllocError>
     requires { (length items.now < 2 ^ 32) × AllWellFormed items.now }
-    ensures ok { OnOk result (out.new.items ≡ out.old.items ++ (to_be_bytes w32 (length items.now) ++ concatenation (map bytes items.now))) }
+    ensures ok { OnOk result (out.new.items ≡ out.old.items ++ counted_items items.now) }
     ensures err { OnErr result ((more : List ℕ) × (out.new.items ≡ out.old.items ++ more)) }
 {
     put_u32(out, items.len() as u32)?;
@@ -56,7 +56,7 @@ fn put_items(out: &mut Vec<u8>, items: &[Value]) -> Result<(), AllocError>
 #[cycle(writing)]
 fn put_pairs(out: &mut Vec<u8>, pairs: &[(Text, Value)]) -> Result<(), AllocError>
     requires { (length pairs.now < 2 ^ 32) × PairsWellFormed pairs.now }
-    ensures ok { OnOk result (out.new.items ≡ out.old.items ++ (to_be_bytes w32 (length pairs.now) ++ pairs_spelling (spelled_pairs pairs.now))) }
+    ensures ok { OnOk result (out.new.items ≡ out.old.items ++ counted_pairs pairs.now) }
     ensures err { OnErr result ((more : List ℕ) × (out.new.items ≡ out.old.items ++ more)) }
 {
     put_u32(out, pairs.len() as u32)?;

@@ -2,7 +2,7 @@ use Rattle.std.proofs.Common.{◌≡◌, ◌≤◌, ◌+◌, ◌-◌, ◌++◌, 
 use Rattle.std.proofs.lemmas.List.{length-take}
 use Rattle.salt_frame.specs.declared.fault.FeedFault.TheVariants as faults
 use Rattle.salt_frame.specs.Held.{Held}
-use Rattle.salt_frame.specs.Inside.{AreFrames, Tail}
+use Rattle.salt_frame.specs.Inside.{AreFrames, IsTail}
 use Rattle.salt_frame.proofs.FeedLemmas.{fed, ok_of, over_of, partial_of, over_room, cut_ready, cut_last, over_held, partial_held, only_over, same_over, no_over}
 use Rattle.salt_frame.proofs.HoldLemmas.{again, added}
 use Rattle.salt_frame.proofs.buffer.FrameBuf.feed.Goals as goal
@@ -21,7 +21,7 @@ invariant_of-self-in-Some-over c =
       ordered = le;
       within = omega (arith, ap length c.truncate.ensures.items, length-take (w + 4) d, room);
       frames = subst (λ (l : List ℕ). AreFrames (take (w - a.start) (drop a.start l))) (sym c.truncate.ensures.items) (cut_ready a.start w c.in-Some-over.length d le f.within o f.ready);
-      tail = subst (λ (l : List ℕ). Tail (Some c.in-Some-over.length) (drop w l)) (sym c.truncate.ensures.items) (cut_last w c.in-Some-over.length d f.within o);
+      tail = subst (λ (l : List ℕ). IsTail (Some c.in-Some-over.length) (drop w l)) (sym c.truncate.ensures.items) (cut_last w c.in-Some-over.length d f.within o);
     }
 
 pub returns-in-Some-over-clause-too_large : goal.returns-in-Some-over-clause-too_large
@@ -63,7 +63,7 @@ invariant_of-self-in_default-over c =
       ordered = omega (arith, f.ordered, f.next);
       within = f.within;
       frames = f.ready;
-      tail = subst (λ o. Tail o (drop w d)) (sym none) (partial_of w c.scan-ready.result.1 d c.in_default-over.is f.last);
+      tail = subst (λ o. IsTail o (drop w d)) (sym none) (partial_of w c.scan-ready.result.1 d c.in_default-over.is f.last);
     }
 
 pub returns-clause-ok : goal.returns-clause-ok
