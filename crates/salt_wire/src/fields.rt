@@ -1,6 +1,5 @@
 //! The fields of messages read from bytes.
 ghost use Rattle.std.specs.Prelude.{◌≡◌, IfOk, IfErr};
-ghost use Rattle.salt_wire.specs.Limits.{is_id};
 ghost use Rattle.salt_wire.specs.Decoding as spec;
 
 use crate::fault::Misread;

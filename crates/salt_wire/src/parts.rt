@@ -1,5 +1,4 @@
 //! Jobs and entries read from bytes.
-ghost use Rattle.std.specs.Prelude.{◌≡◌};
 ghost use Rattle.salt_wire.specs.Decoding as spec;
 
 use crate::fault::Misread;

@@ -1,5 +1,5 @@
 //! The public calls.
-ghost use Rattle.std.specs.Prelude.{◌≡◌, ◌≢◌, ◌≤◌, ◌+◌, ◌++◌, List, ℕ, length, drop, Ok, Err, IfOk, IfErr, OnOk, OnErr};
+ghost use Rattle.std.specs.Prelude.{◌≡◌, ◌≤◌, ◌++◌, length, IfOk, IfErr, OnOk, OnErr};
 ghost use Rattle.salt_value.specs.Id.{IsId};
 ghost use Rattle.salt_value.specs.Word.{IsWord};
 ghost use Rattle.salt_wire.specs.Spelling as spelling;
@@ -9,11 +9,7 @@ ghost use Rattle.salt_wire.specs.Decoding.{field_at, decoding, id_field, word_fi
 ghost use Rattle.salt_wire.specs.FirstFault as wrong;
 ghost use Rattle.salt_wire.specs.FirstFault.{FirstWrong, FieldWrong, FaultAt, HasFirstFault, AnswersFirstFault, HasFaultAt, AnswersFaultAt, job_fields};
 ghost use Rattle.salt_wire.specs.RoundTrip.{Spans, AnswersMessage, AnswersPart, AnswersPartIfMemory};
-ghost use Rattle.salt_wire.specs.declared.fault.WireFault.{WireFault};
 ghost use Rattle.salt_wire.specs.declared.fault.WireFault.TheVariants as faults;
-ghost use Rattle.salt_wire.specs.declared.message.Job.{Job};
-ghost use Rattle.salt_wire.specs.declared.message.Entry.{Entry};
-ghost use Rattle.salt_wire.specs.declared.message.Message.{Message};
 
 use crate::fault::WireFault;
 use crate::fields::word_at;
