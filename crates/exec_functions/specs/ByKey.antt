@@ -89,6 +89,10 @@ abbrev pub mine_send : List ℕ → Option Function → List Value → Holdings 
 mine_send name (Some (Asks query)) args held = mine_result name (query_value query args held) held
 mine_send name other args held = bad_arguments
 
+-- the same by the name of the function
+abbrev pub mine_send_by_name : List ℕ → List Value → Holdings → Ran
+mine_send_by_name name args held = mine_send name (function_named name) args held
+
 -- takes the row out of the mine, if it is there
 abbrev pub mine_delete : List ℕ → List Value → Holdings → Ran
 mine_delete name [] held = success (v.Flag true) (change_to Mine (new_without name held.mine)) (note.Mine ∷ [])
@@ -115,7 +119,7 @@ result_by_key DataUpdate key rest held = data_update key rest held
 result_by_key DataPop key rest held = data_pop key rest held
 result_by_key DataCas key rest held = data_cas key rest held
 result_by_key DataIncr key rest held = data_incr key rest held
-result_by_key MineSend key rest held = mine_send key (function_named key) rest held
+result_by_key MineSend key rest held = mine_send_by_name key rest held
 result_by_key MineDelete key rest held = mine_delete key rest held
 result_by_key MineFlush key rest held = bad_arguments
 result_by_key EventSend key rest held = event_send key rest

@@ -1,8 +1,9 @@
 -- What is within the limits of a message.
-use Rattle.std.specs.Prelude.{◌<◌, ◌&&◌, Bool, [], All}
+use Rattle.std.specs.Prelude.{◌<◌, ◌&&◌, Bool, List, [], All}
 use Rattle.salt_value.specs.Word.{IsWord}
 use Rattle.salt_value.specs.WellFormed.{ValueFits}
 use Rattle.salt_value.specs.FitTest.{fits}
+use Rattle.salt_value.specs.declared.value.Value.{Value}
 use Rattle.salt_value.specs.declared.value.Value.TheVariants as v
 use Rattle.exec_functions.specs.declared.holdings.Holdings.{Holdings}
 use Rattle.exec_functions.specs.declared.holdings.Change.{Change}
@@ -10,6 +11,7 @@ use Rattle.exec_functions.specs.declared.holdings.Change.TheVariants as change
 use Rattle.exec_functions.specs.declared.holdings.Note.{Note}
 use Rattle.exec_functions.specs.declared.holdings.Note.TheVariants as note
 use Rattle.exec_functions.specs.declared.holdings.Ran.{Ran}
+use Rattle.exec_functions.specs.declared.holdings.Done.{Done}
 
 -- each part of what a minion holds is a map within the limits of a value
 pub record AreWithin (held : Holdings) : Type 0 where
@@ -21,6 +23,10 @@ pub record AreWithin (held : Holdings) : Type 0 where
 -- the same as a test
 abbrev pub are_within : Holdings → Bool
 are_within held = fits (v.Map held.grains) && (fits (v.Map held.pillar) && (fits (v.Map held.store) && fits (v.Map held.mine)))
+
+-- what was within the limits before is so after it, where the arguments are within those of a value
+abbrev pub StaysWithin : Holdings → List Value → Done → Type 0
+StaysWithin held args done = AreWithin held → ValueFits (v.List args) → AreWithin done.held
 
 -- what a minion holds that was told nothing
 abbrev pub no_holdings : Holdings

@@ -2,7 +2,6 @@
 ghost use Rattle.std.specs.Prelude.{◌≡◌, ◌+ℤ◌, ◌==◌, not, IfOk};
 ghost use Rattle.std.specs.List.{list_all};
 ghost use Rattle.std.specs.Option.{option_copied};
-ghost use Rattle.exec_functions.specs.Functions.{function_named};
 ghost use Rattle.exec_functions.specs.ByKey as spec;
 
 use crate::arguments::int_of;
@@ -146,7 +145,7 @@ fn data_incr(alloc: Global, key: &str, rest: &[Value], held: &Holdings) -> Resul
 
 // Runs a function that changes nothing, and puts its answer into the mine.
 fn mine_send(alloc: Global, name: &str, args: &[Value], held: &Holdings) -> Result<Ran, AllocError>
-    ensures { IfOk result (λ ran. ran ≡ spec.mine_send name.now (function_named name.now) args.now held.now) }
+    ensures { IfOk result (λ ran. ran ≡ spec.mine_send_by_name name.now args.now held.now) }
 {
     let Some(Function::Asks(query)) = Function::read(name.as_bytes()) else {
         return bad_arguments(alloc);

@@ -3,7 +3,7 @@ ghost use Rattle.std.specs.Prelude.{◌≡◌, IfOk};
 ghost use Rattle.salt_value.specs.WellFormed.{ValueFits};
 ghost use Rattle.salt_value.specs.declared.value.Value.TheVariants as v;
 ghost use Rattle.exec_functions.specs.Exec as spec;
-ghost use Rattle.exec_functions.specs.Limits.{AreWithin, IsSendable};
+ghost use Rattle.exec_functions.specs.Limits.{StaysWithin, IsSendable};
 
 use crate::arguments::key_and_rest;
 use crate::by_key::result_by_key;
@@ -96,7 +96,7 @@ pub fn run(alloc: Global, fun: &Word, args: &[Value], held: &Holdings) -> Result
 pub fn exec(alloc: Global, fun: &Word, args: &[Value], held: &Holdings) -> Result<Done, AllocError>
     ensures ok { IfOk result (λ done. done ≡ spec.exec fun.now args.now held.now) }
     // What is held stays within the limits.
-    ensures within { IfOk result (λ done. AreWithin held.now → ValueFits (v.List args.now) → AreWithin done.held) }
+    ensures within { IfOk result (StaysWithin held.now args.now) }
 {
     let mut new = held.copy(alloc)?;
     let ran = run(alloc, fun, args, held)?;

@@ -1,8 +1,9 @@
 -- Decoding from left to right, as a function: what stands at the front of some bytes, and the bytes after it, or the first fault.
-use Rattle.std.specs.Prelude.{ℕ, zero, suc, ◌-◌, ◌&&◌, ◌||◌, nat_le, nat_lt, ◌==◌, if◌then◌else◌, Bool, List, [], ◌∷◌, length, take, drop, Option, Some, None, Result, Ok, Err}
+use Rattle.std.specs.Prelude.{◌≡◌, true, false, MatchOption, ℕ, zero, suc, ◌-◌, ◌&&◌, ◌||◌, nat_le, nat_lt, ◌==◌, if◌then◌else◌, Bool, List, [], ◌∷◌, length, take, drop, Option, Some, None, Result, Ok, Err}
 use Rattle.std.specs.List.{list_all, find}
+use Rattle.std.specs.Borrow.{Bor}
 use Rattle.std.specs.Int.{Width, w8, w16, w32, w64}
-use Rattle.salt_value.specs.Readers.{Reader, ◌>>=◌, when, found, several}
+use Rattle.salt_value.specs.Readers.{Reader, ◌>>=◌, when, found, several, Gives}
 use Rattle.salt_value.specs.Decoding.{number_or, text_or, read_at}
 use Rattle.salt_value.specs.Limits.{most_word_bytes}
 use Rattle.salt_value.specs.Jid.{greatest_jid}
@@ -31,6 +32,16 @@ use Rattle.salt_wire.specs.Spelling.{version as version_code}
 use Rattle.salt_wire.specs.Limits.{most_target_bytes, most_leaf_bytes, most_tree_nodes, most_patterns, most_tree_bytes, most_answer_bytes, is_id, is_status}
 
 -- ---- places are counted from the end here: a place is the number of bytes from there on
+
+-- ---- what the readers of this crate answer
+
+-- a field, and the bytes after it, as this reader gives them. No public contract cites it.
+abbrev pub GivesField : {A : Type 0} → Result (A × Bor (List ℕ)) Misread → Result (A × List ℕ) Misread → Type 0
+GivesField result read = Gives NoMemory (λ x. (x.0, x.1.now)) result read
+
+-- a node, what may still come, and the bytes after it, as this reader gives them. No public contract cites it.
+abbrev pub GivesNode : {A : Type 0} → Result (A × Room × Bor (List ℕ)) Misread → Result (A × Room × List ℕ) Misread → Type 0
+GivesNode result read = Gives NoMemory (λ x. (x.0, x.1, x.2.now)) result read
 
 -- ---- fields. One that isn't whole or breaks its rule is told at its first byte
 
@@ -65,6 +76,10 @@ counted_or f w test bytes = do
 -- bytes that are a word
 abbrev pub is_word : List ℕ → Bool
 is_word bytes = nat_le 1 (length bytes) && (nat_le (length bytes) most_word_bytes && list_all is_word_byte bytes)
+
+-- the word that bytes are, and none where they are no word. No public contract cites it.
+abbrev pub IsWordOf : List ℕ → Option (List ℕ) → Type 0
+IsWordOf bytes found = MatchOption found (is_word bytes ≡ false) (λ word. (is_word bytes ≡ true) × (word ≡ bytes))
 
 -- an id after the byte of its length, or this fault
 abbrev pub id_or : Misread → Reader Misread (List ℕ)

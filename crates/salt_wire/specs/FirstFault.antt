@@ -1,5 +1,5 @@
 -- The first fault from the left of bytes that are no message: right fields, and then a wrong one.
-use Rattle.std.specs.Prelude.{◌≡◌, ◌⊎◌, ◌<◌, ◌≤◌, ◌+◌, ◌-◌, ◌==◌, if◌then◌else◌, ℕ, Bool, true, false, List, [], ◌∷◌, ◌++◌, length, drop, map, Err}
+use Rattle.std.specs.Prelude.{◌≡◌, ◌≢◌, ◌⊎◌, ◌<◌, ◌≤◌, ◌+◌, ◌-◌, ◌==◌, if◌then◌else◌, ℕ, Bool, true, false, List, [], ◌∷◌, ◌++◌, length, drop, map, Result, Err, IfErr}
 use Rattle.std.specs.List.{count_by, list_all, list_any}
 use Rattle.std.specs.Int.{w16, w64, to_be_bytes}
 use Rattle.salt_value.specs.Id.{IsId}
@@ -9,7 +9,7 @@ use Rattle.salt_value.specs.Spelling.{bytes, text, concatenation}
 use Rattle.salt_value.specs.WellFormed.{ValueFits}
 use Rattle.salt_value.specs.declared.value.Value.TheVariants as v
 use Rattle.target_tree.specs.Kinds.{kind_code}
-use Rattle.salt_value.specs.Readers.{Reader}
+use Rattle.salt_value.specs.Readers.{Reader, Answers}
 use Rattle.salt_value.specs.Decoding.{IsBytes}
 use Rattle.salt_wire.specs.declared.fault.Misread.{Misread}
 use Rattle.salt_wire.specs.declared.fault.Misread.TheVariants.{BadField}
@@ -210,12 +210,36 @@ FirstFault b faults.BadKind = (rest : List ℕ) × (b ≡ version ∷ rest) × (
 FirstFault b (faults.BadField at) = (kind : ℕ) × (rest : List ℕ) × (from : List ℕ) × (b ≡ version ∷ kind ∷ rest) × FirstWrong FieldWrong (fields kind) rest from × (at ≡ length b - length from)
 FirstFault b (faults.Trailing at) = (message : Message) × (rest : List ℕ) × Within message × (0 < length rest) × (b ≡ body message ++ rest) × (at ≡ length (body message))
 
+-- any fault but want of memory is the first of the body
+abbrev pub HasFirstFault : List ℕ → Result Message WireFault → Type 0
+HasFirstFault b result = IfErr result (λ e. e ≢ faults.NoMemory → FirstFault b e)
+
+-- the first fault of the body is answered, unless memory runs out
+abbrev pub AnswersFirstFault : List ℕ → Result Message WireFault → Type 0
+AnswersFirstFault b result = (e : WireFault) → FirstFault b e → Answers faults.NoMemory result (Err e)
+
+-- No public contract cites it. Each fault that decoding meets is the first of the body
+abbrev pub MeetsFirstFaults : (List ℕ → Result Message WireFault) → Type 0
+MeetsFirstFaults decode = (body : List ℕ) (e : WireFault) → IsBytes body → decode body ≡ Err e → FirstFault body e
+
+-- No public contract cites it. Decoding meets the first fault of each body that has one
+abbrev pub MeetsEachFirstFault : (List ℕ → Result Message WireFault) → Type 0
+MeetsEachFirstFault decode = (body : List ℕ) (e : WireFault) → IsBytes body → FirstFault body e → decode body ≡ Err e
+
 -- ---- fields at a place of a body
 
 -- the fault of a body whose bytes go wrong so from a place on
 abbrev pub FaultAt : Wrong → List ℕ → ℕ → WireFault → Type 0
 FaultAt wrong b at (faults.BadField place) = (from : List ℕ) × wrong (drop at b) from × (place ≡ length b - length from)
 FaultAt wrong b at other = ⊥
+
+-- any fault but want of memory is that of the bytes from this place on
+abbrev pub HasFaultAt : {A : Type 0} → Wrong → List ℕ → ℕ → Result A WireFault → Type 0
+HasFaultAt wrong b at result = IfErr result (λ e. e ≢ faults.NoMemory → FaultAt wrong b at e)
+
+-- the fault of the bytes from this place on is answered, unless memory runs out
+abbrev pub AnswersFaultAt : {A : Type 0} → Wrong → List ℕ → ℕ → Result A WireFault → Type 0
+AnswersFaultAt wrong b at result = (e : WireFault) → FaultAt wrong b at e → Answers faults.NoMemory result (Err e)
 
 -- No public contract cites it. A reader that tells where bytes are wrong: each fault that it meets is told there, and is met where they are
 pub record IsTold {A : Type 0} (wrong : Wrong) (read : Reader Misread A) : Type 0 where

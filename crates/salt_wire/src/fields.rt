@@ -1,9 +1,6 @@
 //! The fields of messages read from bytes.
-ghost use Rattle.std.specs.Prelude.{◌≡◌, false, true, IfOk, IfErr, MatchOption};
-ghost use Rattle.salt_wire.specs.Limits.{is_id};
+ghost use Rattle.std.specs.Prelude.{◌≡◌, IfOk, IfErr};
 ghost use Rattle.salt_wire.specs.Decoding as spec;
-ghost use Rattle.salt_value.specs.Readers.{Gives};
-ghost use Rattle.salt_wire.specs.declared.fault.Misread.TheVariants.{NoMemory};
 
 use crate::fault::Misread;
 use salt_value::{
@@ -18,21 +15,21 @@ pub type Parsed<'a, T> = Result<(T, &'a [u8]), Misread>;
 
 // A byte.
 pub fn byte_at(bytes: &[u8]) -> Parsed<'_, u8>
-    ensures { Gives NoMemory (λ x. (x.0, x.1.now)) result (spec.byte_field bytes.now) }
+    ensures { spec.GivesField result (spec.byte_field bytes.now) }
 {
     u8_or(bytes, Misread::BadField(bytes.len()))
 }
 
 // A number of 32 bits.
 pub fn number_at(bytes: &[u8]) -> Parsed<'_, u32>
-    ensures { Gives NoMemory (λ x. (x.0, x.1.now)) result (spec.number_field bytes.now) }
+    ensures { spec.GivesField result (spec.number_field bytes.now) }
 {
     u32_or(bytes, Misread::BadField(bytes.len()))
 }
 
 // A text of at most so many bytes.
 pub fn short_text_at(alloc: Global, most: usize, bytes: &[u8]) -> Parsed<'_, Text>
-    ensures { Gives NoMemory (λ x. (x.0, x.1.now)) result (spec.short_text most bytes.now) }
+    ensures { spec.GivesField result (spec.short_text most bytes.now) }
 {
     let bad = Misread::BadField(bytes.len());
     let (text, rest) = text_or(bytes, bad, bad)?;
@@ -44,7 +41,7 @@ pub fn short_text_at(alloc: Global, most: usize, bytes: &[u8]) -> Parsed<'_, Tex
 
 // A text.
 pub fn text_at(alloc: Global, bytes: &[u8]) -> Parsed<'_, Text>
-    ensures { Gives NoMemory (λ x. (x.0, x.1.now)) result (spec.text_field bytes.now) }
+    ensures { spec.GivesField result (spec.text_field bytes.now) }
 {
     let bad = Misread::BadField(bytes.len());
     let (text, rest) = text_or(bytes, bad, bad)?;
@@ -54,7 +51,7 @@ pub fn text_at(alloc: Global, bytes: &[u8]) -> Parsed<'_, Text>
 // An id, after the byte of its length, or this fault.
 #[tactic(auto, unfolding(crate::specs::Decoding::counted_or))]
 pub fn id_or(bytes: &[u8], bad: Misread) -> Parsed<'_, MinionId>
-    ensures gives { Gives NoMemory (λ x. (x.0, x.1.now)) result (spec.id_or bad bytes.now) }
+    ensures gives { spec.GivesField result (spec.id_or bad bytes.now) }
     ensures known { IfErr result (λ e. e ≡ bad) }
 {
     let (length, rest) = u8_or(bytes, bad)?;
@@ -71,7 +68,7 @@ pub fn id_or(bytes: &[u8], bad: Misread) -> Parsed<'_, MinionId>
 
 // An id.
 pub fn id_at(bytes: &[u8]) -> Parsed<'_, MinionId>
-    ensures gives { Gives NoMemory (λ x. (x.0, x.1.now)) result (spec.id_field bytes.now) }
+    ensures gives { spec.GivesField result (spec.id_field bytes.now) }
     ensures known { IfErr result (λ e. e ≡ spec.misread bytes.now) }
 {
     id_or(bytes, Misread::BadField(bytes.len()))
@@ -79,7 +76,7 @@ pub fn id_at(bytes: &[u8]) -> Parsed<'_, MinionId>
 
 // The word that the bytes are.
 fn word_in(alloc: Global, bytes: &[u8]) -> Result<Option<Word>, AllocError>
-    ensures { IfOk result (λ found. MatchOption found (spec.is_word bytes.now ≡ false) (λ word. (spec.is_word bytes.now ≡ true) × (word ≡ bytes.now))) }
+    ensures { IfOk result (spec.IsWordOf bytes.now) }
 {
     let Ok(text) = std::str::from_utf8(bytes) else {
         return Ok(None);
@@ -94,7 +91,7 @@ fn word_in(alloc: Global, bytes: &[u8]) -> Result<Option<Word>, AllocError>
 // A word, after the two bytes of its length.
 #[tactic(auto, unfolding(crate::specs::Decoding::counted_or))]
 pub fn word_at(alloc: Global, bytes: &[u8]) -> Parsed<'_, Word>
-    ensures { Gives NoMemory (λ x. (x.0, x.1.now)) result (spec.word_field bytes.now) }
+    ensures { spec.GivesField result (spec.word_field bytes.now) }
 {
     let bad = Misread::BadField(bytes.len());
     let (length, rest) = u16_or(bytes, bad)?;
@@ -112,7 +109,7 @@ pub fn word_at(alloc: Global, bytes: &[u8]) -> Parsed<'_, Word>
 // A job id.
 #[tactic(auto, unfolding(crate::specs::Decoding::jid_field))]
 pub fn jid_at(bytes: &[u8]) -> Parsed<'_, Jid>
-    ensures { Gives NoMemory (λ x. (x.0, x.1.now)) result (spec.jid_field bytes.now) }
+    ensures { spec.GivesField result (spec.jid_field bytes.now) }
 {
     let bad = Misread::BadField(bytes.len());
     let (micros, rest) = u64_or(bytes, bad)?;
@@ -125,7 +122,7 @@ pub fn jid_at(bytes: &[u8]) -> Parsed<'_, Jid>
 // The kind of a target.
 #[tactic(auto, unfolding(crate::specs::Decoding::kind_field))]
 pub fn kind_at(bytes: &[u8]) -> Parsed<'_, Kind>
-    ensures { Gives NoMemory (λ x. (x.0, x.1.now)) result (spec.kind_field bytes.now) }
+    ensures { spec.GivesField result (spec.kind_field bytes.now) }
 {
     let (code, rest) = byte_at(bytes)?;
     match Kind::of(code) {
@@ -137,7 +134,7 @@ pub fn kind_at(bytes: &[u8]) -> Parsed<'_, Kind>
 // A value.
 #[tactic(auto, unfolding(crate::specs::Decoding::value_field))]
 pub fn value_at(alloc: Global, bytes: &[u8]) -> Parsed<'_, Value>
-    ensures { Gives NoMemory (λ x. (x.0, x.1.now)) result (spec.value_field bytes.now) }
+    ensures { spec.GivesField result (spec.value_field bytes.now) }
 {
     match Value::read(alloc, bytes) {
         Ok((value, taken)) => Ok((value, &bytes[taken..])),
@@ -149,7 +146,7 @@ pub fn value_at(alloc: Global, bytes: &[u8]) -> Parsed<'_, Value>
 // A value that is a list.
 #[tactic(auto, unfolding(crate::specs::Decoding::items_field))]
 pub fn items_at(alloc: Global, bytes: &[u8]) -> Parsed<'_, Items>
-    ensures { Gives NoMemory (λ x. (x.0, x.1.now)) result (spec.items_field bytes.now) }
+    ensures { spec.GivesField result (spec.items_field bytes.now) }
 {
     let (value, rest) = value_at(alloc, bytes)?;
     match value {
@@ -161,7 +158,7 @@ pub fn items_at(alloc: Global, bytes: &[u8]) -> Parsed<'_, Items>
 // A value that is a map.
 #[tactic(auto, unfolding(crate::specs::Decoding::fields_field))]
 pub fn fields_at(alloc: Global, bytes: &[u8]) -> Parsed<'_, Fields>
-    ensures { Gives NoMemory (λ x. (x.0, x.1.now)) result (spec.fields_field bytes.now) }
+    ensures { spec.GivesField result (spec.fields_field bytes.now) }
 {
     let (value, rest) = value_at(alloc, bytes)?;
     match value {

@@ -1,14 +1,11 @@
 //! Laws of the bytes, as the clauses of functions that do nothing.
-ghost use Rattle.std.specs.Prelude.{◌≡◌, List, ℕ, Err};
 ghost use Rattle.salt_wire.specs.Spelling as spelling;
 ghost use Rattle.salt_wire.specs.Limits.{JobFits, EntryFits, Within};
 ghost use Rattle.salt_value.specs.Id.{IsId};
 ghost use Rattle.salt_value.specs.Word.{IsWord};
-ghost use Rattle.salt_value.specs.Decoding.{IsBytes};
 ghost use Rattle.salt_wire.specs.Decoding.{id_field, word_field, job_field, entry_field, kind_and_fields, decoding};
 ghost use Rattle.salt_wire.specs.FirstFault as wrong;
-ghost use Rattle.salt_wire.specs.FirstFault.{FirstFault, FirstWrong, FieldWrong, IsTold, job_fields};
-ghost use Rattle.salt_wire.specs.declared.fault.WireFault.{WireFault};
+ghost use Rattle.salt_wire.specs.FirstFault.{FirstWrong, FieldWrong, IsTold, MeetsFirstFaults, MeetsEachFirstFault, job_fields};
 ghost use Rattle.salt_wire.specs.RoundTrip.{IsReadBack};
 
 use crate::fault::Misread;
@@ -30,8 +27,8 @@ pub fn messages_read_back()
 
 // The fault that decoding meets is the first one of the body, and the first one is met; so it is with the fields.
 pub fn first_fault_is_met()
-    ensures fault { (body : List ℕ) (e : WireFault) → IsBytes body → decoding body ≡ Err e → FirstFault body e }
-    ensures first { (body : List ℕ) (e : WireFault) → IsBytes body → FirstFault body e → decoding body ≡ Err e }
+    ensures fault { MeetsFirstFaults decoding }
+    ensures first { MeetsEachFirstFault decoding }
     ensures ids { IsTold (FieldWrong wrong.Id) id_field }
     ensures words { IsTold (FieldWrong wrong.Word) word_field }
     ensures entries { IsTold (FieldWrong wrong.Entry) entry_field }

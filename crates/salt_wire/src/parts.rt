@@ -1,8 +1,5 @@
 //! Jobs and entries read from bytes.
-ghost use Rattle.std.specs.Prelude.{◌≡◌};
 ghost use Rattle.salt_wire.specs.Decoding as spec;
-ghost use Rattle.salt_value.specs.Readers.{Gives};
-ghost use Rattle.salt_wire.specs.declared.fault.Misread.TheVariants.{NoMemory};
 
 use crate::fault::Misread;
 use crate::fields::{
@@ -20,7 +17,7 @@ const MOST_TARGET_BYTES: usize = 4096;
 // A job.
 #[tactic(auto, unfolding(crate::specs::Decoding::job_field))]
 pub fn job_at(alloc: Global, bytes: &[u8]) -> Parsed<'_, Job>
-    ensures { Gives NoMemory (λ x. (x.0, x.1.now)) result (spec.job_field bytes.now) }
+    ensures { spec.GivesField result (spec.job_field bytes.now) }
 {
     let (jid, rest) = match jid_at(bytes) {
         Ok(found) => found,
@@ -44,7 +41,7 @@ pub fn job_at(alloc: Global, bytes: &[u8]) -> Parsed<'_, Job>
 
 #[tactic(auto, unfolding(crate::specs::Decoding::return_at))]
 fn return_at(alloc: Global, bytes: &[u8]) -> Parsed<'_, Entry>
-    ensures { Gives NoMemory (λ x. (x.0, x.1.now)) result (spec.return_at bytes.now) }
+    ensures { spec.GivesField result (spec.return_at bytes.now) }
 {
     let (seq, rest) = number_at(bytes)?;
     let (retcode, rest) = byte_at(rest)?;
@@ -55,7 +52,7 @@ fn return_at(alloc: Global, bytes: &[u8]) -> Parsed<'_, Entry>
 
 #[tactic(auto, unfolding(crate::specs::Decoding::fired_at))]
 fn fired_at(alloc: Global, bytes: &[u8]) -> Parsed<'_, Entry>
-    ensures { Gives NoMemory (λ x. (x.0, x.1.now)) result (spec.fired_at bytes.now) }
+    ensures { spec.GivesField result (spec.fired_at bytes.now) }
 {
     let (tag, rest) = word_at(alloc, bytes)?;
     let (body, rest) = value_at(alloc, rest)?;
@@ -65,7 +62,7 @@ fn fired_at(alloc: Global, bytes: &[u8]) -> Parsed<'_, Entry>
 
 #[tactic(auto, unfolding(crate::specs::Decoding::mine_at))]
 fn mine_at(alloc: Global, bytes: &[u8]) -> Parsed<'_, Entry>
-    ensures { Gives NoMemory (λ x. (x.0, x.1.now)) result (spec.mine_at bytes.now) }
+    ensures { spec.GivesField result (spec.mine_at bytes.now) }
 {
     let (seq, rest) = number_at(bytes)?;
     let (mine, rest) = fields_at(alloc, rest)?;
@@ -85,7 +82,7 @@ fn mine_at(alloc: Global, bytes: &[u8]) -> Parsed<'_, Entry>
 // What stands after the tag of an entry.
 #[tactic(auto, unfolding(crate::specs::Decoding::entry_after))]
 fn entry_after(alloc: Global, tag: u8, bytes: &[u8]) -> Parsed<'_, Entry>
-    ensures { Gives NoMemory (λ x. (x.0, x.1.now)) result (spec.entry_after tag bytes.now) }
+    ensures { spec.GivesField result (spec.entry_after tag bytes.now) }
 {
     match tag {
         0x01 => return_at(alloc, bytes),
@@ -102,7 +99,7 @@ fn entry_after(alloc: Global, tag: u8, bytes: &[u8]) -> Parsed<'_, Entry>
 // An entry.
 #[tactic(auto, unfolding(crate::specs::Decoding::entry_field))]
 pub fn entry_at(alloc: Global, bytes: &[u8]) -> Parsed<'_, Entry>
-    ensures { Gives NoMemory (λ x. (x.0, x.1.now)) result (spec.entry_field bytes.now) }
+    ensures { spec.GivesField result (spec.entry_field bytes.now) }
 {
     let (tag, rest) = byte_at(bytes)?;
     entry_after(alloc, tag, rest)

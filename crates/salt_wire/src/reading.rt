@@ -18,7 +18,7 @@ const MOST_ANSWER_BYTES: usize = 1_000_000;
 
 #[tactic(auto, unfolding(crate::specs::Decoding::pub_fields))]
 fn pub_fields(alloc: Global, bytes: &[u8]) -> Parsed<'_, Message>
-    ensures { Gives NoMemory (λ x. (x.0, x.1.now)) result (spec.pub_fields bytes.now) }
+    ensures { spec.GivesField result (spec.pub_fields bytes.now) }
 {
     let (seq, rest) = number_at(bytes)?;
     let (job, rest) = job_at(alloc, rest)?;
@@ -27,7 +27,7 @@ fn pub_fields(alloc: Global, bytes: &[u8]) -> Parsed<'_, Message>
 
 #[tactic(auto, unfolding(crate::specs::Decoding::have_fields))]
 fn have_fields(bytes: &[u8]) -> Parsed<'_, Message>
-    ensures { Gives NoMemory (λ x. (x.0, x.1.now)) result (spec.have_fields bytes.now) }
+    ensures { spec.GivesField result (spec.have_fields bytes.now) }
 {
     let (jobs, rest) = number_at(bytes)?;
     Ok((Message::Have { jobs }, rest))
@@ -35,7 +35,7 @@ fn have_fields(bytes: &[u8]) -> Parsed<'_, Message>
 
 #[tactic(auto, unfolding(crate::specs::Decoding::up_fields))]
 fn up_fields(alloc: Global, bytes: &[u8]) -> Parsed<'_, Message>
-    ensures { Gives NoMemory (λ x. (x.0, x.1.now)) result (spec.up_fields bytes.now) }
+    ensures { spec.GivesField result (spec.up_fields bytes.now) }
 {
     let (minion, rest) = match id_at(bytes) {
         Ok(found) => found,
@@ -48,7 +48,7 @@ fn up_fields(alloc: Global, bytes: &[u8]) -> Parsed<'_, Message>
 
 #[tactic(auto, unfolding(crate::specs::Decoding::up_have_fields))]
 fn up_have_fields(bytes: &[u8]) -> Parsed<'_, Message>
-    ensures { Gives NoMemory (λ x. (x.0, x.1.now)) result (spec.up_have_fields bytes.now) }
+    ensures { spec.GivesField result (spec.up_have_fields bytes.now) }
 {
     let (minion, rest) = match id_at(bytes) {
         Ok(found) => found,
@@ -60,7 +60,7 @@ fn up_have_fields(bytes: &[u8]) -> Parsed<'_, Message>
 
 #[tactic(auto, unfolding(crate::specs::Decoding::hello_fields))]
 fn hello_fields(bytes: &[u8]) -> Parsed<'_, Message>
-    ensures { Gives NoMemory (λ x. (x.0, x.1.now)) result (spec.hello_fields bytes.now) }
+    ensures { spec.GivesField result (spec.hello_fields bytes.now) }
 {
     let (id, rest) = match id_at(bytes) {
         Ok(found) => found,
@@ -71,7 +71,7 @@ fn hello_fields(bytes: &[u8]) -> Parsed<'_, Message>
 
 #[tactic(auto, unfolding(crate::specs::Decoding::ask_publish_fields))]
 fn ask_publish_fields(alloc: Global, bytes: &[u8]) -> Parsed<'_, Message>
-    ensures { Gives NoMemory (λ x. (x.0, x.1.now)) result (spec.ask_publish_fields bytes.now) }
+    ensures { spec.GivesField result (spec.ask_publish_fields bytes.now) }
 {
     let (kind, rest) = kind_at(bytes)?;
     let (tgt, rest) = text_at(alloc, rest)?;
@@ -88,7 +88,7 @@ fn ask_publish_fields(alloc: Global, bytes: &[u8]) -> Parsed<'_, Message>
 
 #[tactic(auto, unfolding(crate::specs::Decoding::ask_report_fields))]
 fn ask_report_fields(bytes: &[u8]) -> Parsed<'_, Message>
-    ensures { Gives NoMemory (λ x. (x.0, x.1.now)) result (spec.ask_report_fields bytes.now) }
+    ensures { spec.GivesField result (spec.ask_report_fields bytes.now) }
 {
     let (jid, rest) = match jid_at(bytes) {
         Ok(found) => found,
@@ -99,7 +99,7 @@ fn ask_report_fields(bytes: &[u8]) -> Parsed<'_, Message>
 
 #[tactic(auto, unfolding(crate::specs::Decoding::ask_mine_fields))]
 fn ask_mine_fields(alloc: Global, bytes: &[u8]) -> Parsed<'_, Message>
-    ensures { Gives NoMemory (λ x. (x.0, x.1.now)) result (spec.ask_mine_fields bytes.now) }
+    ensures { spec.GivesField result (spec.ask_mine_fields bytes.now) }
 {
     let (kind, rest) = kind_at(bytes)?;
     let (tgt, rest) = text_at(alloc, rest)?;
@@ -116,7 +116,7 @@ fn is_status(status: u8) -> bool
 // The status of an answer.
 #[tactic(auto, unfolding(crate::specs::Decoding::status_field))]
 fn status_at(bytes: &[u8]) -> Parsed<'_, u8>
-    ensures { Gives NoMemory (λ x. (x.0, x.1.now)) result (spec.status_field bytes.now) }
+    ensures { spec.GivesField result (spec.status_field bytes.now) }
 {
     let (status, rest) = byte_at(bytes)?;
     if !is_status(status) {
@@ -127,7 +127,7 @@ fn status_at(bytes: &[u8]) -> Parsed<'_, u8>
 
 #[tactic(auto, unfolding(crate::specs::Decoding::answer_fields))]
 fn answer_fields(alloc: Global, bytes: &[u8]) -> Parsed<'_, Message>
-    ensures { Gives NoMemory (λ x. (x.0, x.1.now)) result (spec.answer_fields bytes.now) }
+    ensures { spec.GivesField result (spec.answer_fields bytes.now) }
 {
     let (status, rest) = status_at(bytes)?;
     let (text, rest) = short_text_at(alloc, MOST_ANSWER_BYTES, rest)?;
@@ -137,7 +137,7 @@ fn answer_fields(alloc: Global, bytes: &[u8]) -> Parsed<'_, Message>
 // The fields of a client's message.
 #[tactic(auto, unfolding(crate::specs::Decoding::client_fields))]
 fn client_fields(alloc: Global, kind: u8, bytes: &[u8]) -> Parsed<'_, Message>
-    ensures { Gives NoMemory (λ x. (x.0, x.1.now)) result (spec.client_fields kind bytes.now) }
+    ensures { spec.GivesField result (spec.client_fields kind bytes.now) }
 {
     match kind {
         0x10 => ask_publish_fields(alloc, bytes),
@@ -152,7 +152,7 @@ fn client_fields(alloc: Global, kind: u8, bytes: &[u8]) -> Parsed<'_, Message>
 // The fields of a message of this kind.
 #[tactic(auto, unfolding(crate::specs::Decoding::message_fields))]
 fn fields_of(alloc: Global, kind: u8, bytes: &[u8]) -> Parsed<'_, Message>
-    ensures { Gives NoMemory (λ x. (x.0, x.1.now)) result (spec.message_fields kind bytes.now) }
+    ensures { spec.GivesField result (spec.message_fields kind bytes.now) }
 {
     match kind {
         0x01 => pub_fields(alloc, bytes),
@@ -167,7 +167,7 @@ fn fields_of(alloc: Global, kind: u8, bytes: &[u8]) -> Parsed<'_, Message>
 
 #[tactic(auto, unfolding(crate::specs::Decoding::kind_and_fields))]
 fn kind_and_fields(alloc: Global, bytes: &[u8]) -> Parsed<'_, Message>
-    ensures { Gives NoMemory (λ x. (x.0, x.1.now)) result (spec.kind_and_fields bytes.now) }
+    ensures { spec.GivesField result (spec.kind_and_fields bytes.now) }
 {
     match bytes {
         [] => Err(Misread::BadKind),

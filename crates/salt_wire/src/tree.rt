@@ -1,8 +1,7 @@
 //! Trees of targets read from bytes.
 ghost use Rattle.std.specs.Prelude.{◌≡◌};
 ghost use Rattle.salt_wire.specs.Decoding as spec;
-ghost use Rattle.salt_value.specs.Readers.{Gives, several};
-ghost use Rattle.salt_wire.specs.declared.fault.Misread.TheVariants.{NoMemory};
+ghost use Rattle.salt_value.specs.Readers.{several};
 
 use crate::fault::Misread;
 use crate::fields::{Parsed, byte_at, id_or, text_at};
@@ -76,7 +75,7 @@ impl Room {
 // The tag of a node.
 #[tactic(auto, unfolding(crate::specs::Decoding::tag_field))]
 fn tag_at(room: Room, bytes: &[u8]) -> Node<'_, u8>
-    ensures { Gives NoMemory (λ x. (x.0, x.1, x.2.now)) result (spec.tag_field room bytes.now) }
+    ensures { spec.GivesNode result (spec.tag_field room bytes.now) }
 {
     let bad = Misread::BadField(bytes.len());
     let (tag, rest) = byte_at(bytes)?;
@@ -92,7 +91,7 @@ fn tag_at(room: Room, bytes: &[u8]) -> Node<'_, u8>
 // The text of a leaf.
 #[tactic(auto, unfolding(crate::specs::Decoding::leaf_text))]
 fn leaf_text_at(alloc: Global, stop: usize, bytes: &[u8]) -> Parsed<'_, Text>
-    ensures { Gives NoMemory (λ x. (x.0, x.1.now)) result (spec.leaf_text stop bytes.now) }
+    ensures { spec.GivesField result (spec.leaf_text stop bytes.now) }
 {
     let bad = Misread::BadField(bytes.len());
     let (text, rest) = text_at(alloc, bytes)?;
@@ -105,7 +104,7 @@ fn leaf_text_at(alloc: Global, stop: usize, bytes: &[u8]) -> Parsed<'_, Text>
 
 // So many ids, or this fault.
 fn ids_or(alloc: Global, count: u16, bytes: &[u8], bad: Misread) -> Parsed<'_, Items<MinionId>>
-    ensures { Gives NoMemory (λ x. (x.0, x.1.now)) result (several (spec.id_or bad) count bytes.now) }
+    ensures { spec.GivesField result (several (spec.id_or bad) count bytes.now) }
 {
     let mut ids = Items::new(alloc);
     let mut rest = bytes;
@@ -123,7 +122,7 @@ fn ids_or(alloc: Global, count: u16, bytes: &[u8], bad: Misread) -> Parsed<'_, I
 // The ids of a leaf.
 #[tactic(auto, unfolding(crate::specs::Decoding::leaf_ids))]
 fn leaf_ids_at(alloc: Global, stop: usize, bytes: &[u8]) -> Parsed<'_, Items<MinionId>>
-    ensures { Gives NoMemory (λ x. (x.0, x.1.now)) result (spec.leaf_ids stop bytes.now) }
+    ensures { spec.GivesField result (spec.leaf_ids stop bytes.now) }
 {
     let bad = Misread::BadField(bytes.len());
     let (count, rest) = u16_or(bytes, bad)?;
@@ -157,7 +156,7 @@ fn leaf(tag: u8, text: Text) -> Target
 // A leaf with a text, after its tag.
 #[tactic(auto, unfolding(crate::specs::Decoding::text_node))]
 fn text_node(alloc: Global, tag: u8, room: Room, bytes: &[u8]) -> Node<'_, Target>
-    ensures { Gives NoMemory (λ x. (x.0, x.1, x.2.now)) result (spec.text_node tag room bytes.now) }
+    ensures { spec.GivesNode result (spec.text_node tag room bytes.now) }
 {
     if !is_text_tag(tag) {
         return Err(Misread::BadField(bytes.len().saturating_add(1)));
@@ -169,7 +168,7 @@ fn text_node(alloc: Global, tag: u8, room: Room, bytes: &[u8]) -> Node<'_, Targe
 // A leaf with ids, after its tag.
 #[tactic(auto, unfolding(crate::specs::Decoding::list_node))]
 fn list_node(alloc: Global, room: Room, bytes: &[u8]) -> Node<'_, Target>
-    ensures { Gives NoMemory (λ x. (x.0, x.1, x.2.now)) result (spec.list_node room bytes.now) }
+    ensures { spec.GivesNode result (spec.list_node room bytes.now) }
 {
     let (ids, rest) = leaf_ids_at(alloc, room.stop, bytes)?;
     Ok((Target::IdList(ids), room, rest))
@@ -179,7 +178,7 @@ fn list_node(alloc: Global, room: Room, bytes: &[u8]) -> Node<'_, Target>
 #[cycle(trees)]
 #[tactic(auto, using(crate::proofs::TreeSteps::tree_steps))]
 fn levels_at(alloc: Global, levels: usize, room: Room, bytes: &[u8]) -> Node<'_, Target>
-    ensures { Gives NoMemory (λ x. (x.0, x.1, x.2.now)) result (spec.tree_at levels room bytes.now) }
+    ensures { spec.GivesNode result (spec.tree_at levels room bytes.now) }
 {
     if levels == 0 {
         return Err(Misread::BadField(bytes.len()));
@@ -191,7 +190,7 @@ fn levels_at(alloc: Global, levels: usize, room: Room, bytes: &[u8]) -> Node<'_,
 // The same in a box.
 #[cycle(trees)]
 fn part_at(alloc: Global, levels: usize, room: Room, bytes: &[u8]) -> Node<'_, Boxed<Target>>
-    ensures { Gives NoMemory (λ x. (x.0, x.1, x.2.now)) result (spec.tree_at levels room bytes.now) }
+    ensures { spec.GivesNode result (spec.tree_at levels room bytes.now) }
 {
     let (tree, room, rest) = levels_at(alloc, levels, room, bytes)?;
     Ok((Boxed::new(alloc, tree)?, room, rest))
@@ -200,7 +199,7 @@ fn part_at(alloc: Global, levels: usize, room: Room, bytes: &[u8]) -> Node<'_, B
 #[cycle(trees)]
 #[tactic(auto, unfolding(crate::specs::Decoding::not_node))]
 fn not_node(alloc: Global, levels: usize, room: Room, bytes: &[u8]) -> Node<'_, Target>
-    ensures { Gives NoMemory (λ x. (x.0, x.1, x.2.now)) result (spec.not_node (spec.tree_at levels) room bytes.now) }
+    ensures { spec.GivesNode result (spec.not_node (spec.tree_at levels) room bytes.now) }
 {
     let (part, room, rest) = part_at(alloc, levels, room, bytes)?;
     Ok((Target::Not(part), room, rest))
@@ -209,7 +208,7 @@ fn not_node(alloc: Global, levels: usize, room: Room, bytes: &[u8]) -> Node<'_, 
 #[cycle(trees)]
 #[tactic(auto, unfolding(crate::specs::Decoding::and_node))]
 fn and_node(alloc: Global, levels: usize, room: Room, bytes: &[u8]) -> Node<'_, Target>
-    ensures { Gives NoMemory (λ x. (x.0, x.1, x.2.now)) result (spec.and_node (spec.tree_at levels) room bytes.now) }
+    ensures { spec.GivesNode result (spec.and_node (spec.tree_at levels) room bytes.now) }
 {
     let (left, room, rest) = part_at(alloc, levels, room, bytes)?;
     let (right, room, rest) = part_at(alloc, levels, room, rest)?;
@@ -219,7 +218,7 @@ fn and_node(alloc: Global, levels: usize, room: Room, bytes: &[u8]) -> Node<'_, 
 #[cycle(trees)]
 #[tactic(auto, unfolding(crate::specs::Decoding::or_node))]
 fn or_node(alloc: Global, levels: usize, room: Room, bytes: &[u8]) -> Node<'_, Target>
-    ensures { Gives NoMemory (λ x. (x.0, x.1, x.2.now)) result (spec.or_node (spec.tree_at levels) room bytes.now) }
+    ensures { spec.GivesNode result (spec.or_node (spec.tree_at levels) room bytes.now) }
 {
     let (left, room, rest) = part_at(alloc, levels, room, bytes)?;
     let (right, room, rest) = part_at(alloc, levels, room, rest)?;
@@ -230,7 +229,7 @@ fn or_node(alloc: Global, levels: usize, room: Room, bytes: &[u8]) -> Node<'_, T
 #[cycle(trees)]
 #[tactic(auto, unfolding(crate::specs::Decoding::node_after))]
 fn node_after(alloc: Global, levels: usize, tag: u8, room: Room, bytes: &[u8]) -> Node<'_, Target>
-    ensures { Gives NoMemory (λ x. (x.0, x.1, x.2.now)) result (spec.node_after (spec.tree_at levels) tag room bytes.now) }
+    ensures { spec.GivesNode result (spec.node_after (spec.tree_at levels) tag room bytes.now) }
 {
     match tag {
         0x03 => list_node(alloc, room, bytes),
@@ -244,7 +243,7 @@ fn node_after(alloc: Global, levels: usize, tag: u8, room: Room, bytes: &[u8]) -
 // A whole tree.
 #[tactic(auto, unfolding(crate::specs::Decoding::tree_field))]
 pub fn tree_at(alloc: Global, bytes: &[u8]) -> Parsed<'_, Boxed<Target>>
-    ensures { Gives NoMemory (λ x. (x.0, x.1.now)) result (spec.tree_field bytes.now) }
+    ensures { spec.GivesField result (spec.tree_field bytes.now) }
 {
     let (tree, _, rest) = part_at(alloc, MOST_NODES, Room::whole(bytes), bytes)?;
     Ok((tree, rest))

@@ -1,5 +1,5 @@
 //! The public calls.
-ghost use Rattle.std.specs.Prelude.{◌≡◌, ◌≢◌, ◌≤◌, ◌+◌, ◌++◌, List, ℕ, length, drop, Ok, Err, IfOk, IfErr, OnOk, OnErr};
+ghost use Rattle.std.specs.Prelude.{◌≡◌, ◌≤◌, ◌++◌, length, IfOk, IfErr, OnOk, OnErr};
 ghost use Rattle.salt_value.specs.Id.{IsId};
 ghost use Rattle.salt_value.specs.Word.{IsWord};
 ghost use Rattle.salt_wire.specs.Spelling as spelling;
@@ -7,13 +7,9 @@ ghost use Rattle.salt_wire.specs.Limits.{JobFits, EntryFits, Within};
 ghost use Rattle.salt_value.specs.Readers.{Answers};
 ghost use Rattle.salt_wire.specs.Decoding.{field_at, decoding, id_field, word_field, job_field, entry_field};
 ghost use Rattle.salt_wire.specs.FirstFault as wrong;
-ghost use Rattle.salt_wire.specs.FirstFault.{FirstFault, FirstWrong, FieldWrong, FaultAt, job_fields};
-ghost use Rattle.salt_wire.specs.RoundTrip.{Spans};
-ghost use Rattle.salt_wire.specs.declared.fault.WireFault.{WireFault};
+ghost use Rattle.salt_wire.specs.FirstFault.{FirstWrong, FieldWrong, FaultAt, HasFirstFault, AnswersFirstFault, HasFaultAt, AnswersFaultAt, job_fields};
+ghost use Rattle.salt_wire.specs.RoundTrip.{Spans, AnswersMessage, AnswersPart, AnswersPartIfMemory};
 ghost use Rattle.salt_wire.specs.declared.fault.WireFault.TheVariants as faults;
-ghost use Rattle.salt_wire.specs.declared.message.Job.{Job};
-ghost use Rattle.salt_wire.specs.declared.message.Entry.{Entry};
-ghost use Rattle.salt_wire.specs.declared.message.Message.{Message};
 
 use crate::fault::WireFault;
 use crate::fields::word_at;
@@ -30,11 +26,11 @@ pub fn decode(alloc: Global, body: &[u8]) -> Result<Message, WireFault>
     // What is decoded is within its limits and has this body.
     ensures ok { IfOk result (λ message. Within message × (body.now ≡ spelling.body message)) }
     // A message within its limits that has this body is decoded, unless memory runs out.
-    ensures complete { (message : Message) → Within message → body.now ≡ spelling.body message → Answers faults.NoMemory result (Ok message) }
+    ensures complete { AnswersMessage body.now result }
     // Any fault but want of memory is the first of the body.
-    ensures fault { IfErr result (λ e. e ≢ faults.NoMemory → FirstFault body.now e) }
+    ensures fault { HasFirstFault body.now result }
     // The first fault of the body is answered, unless memory runs out.
-    ensures first { (e : WireFault) → FirstFault body.now e → Answers faults.NoMemory result (Err e) }
+    ensures first { AnswersFirstFault body.now result }
     // All of this, with the faults and their places, as a function.
     ensures exact { Answers faults.NoMemory result (decoding body.now) }
 {
@@ -102,7 +98,7 @@ pub fn read_id(body: &[u8], at: usize) -> Result<(MinionId, usize), WireFault>
     // What is read is an id and stands between the two places.
     ensures ok { IfOk result (λ x. IsId x.0 × Spans spelling.id body.now at x) }
     // An id that stands there is read.
-    ensures complete { (x : List ℕ) (rest : List ℕ) → IsId x → drop at body.now ≡ spelling.id x ++ rest → result ≡ Ok (x, at + length (spelling.id x)) }
+    ensures complete { AnswersPart spelling.id IsId body.now at result }
     // Any fault is that of the field there.
     ensures fault { IfErr result (FaultAt (FieldWrong wrong.Id) body.now at) }
     // The fault of the field there is answered.
@@ -121,11 +117,11 @@ pub fn read_word(alloc: Global, body: &[u8], at: usize) -> Result<(Word, usize),
     // What is read is within its limits and stands between the two places.
     ensures ok { IfOk result (λ x. IsWord x.0 × Spans spelling.word body.now at x) }
     // One within its limits that stands there is read, unless memory runs out.
-    ensures complete { (x : List ℕ) (rest : List ℕ) → IsWord x → drop at body.now ≡ spelling.word x ++ rest → Answers faults.NoMemory result (Ok (x, at + length (spelling.word x))) }
+    ensures complete { AnswersPartIfMemory spelling.word IsWord body.now at result }
     // Any fault but want of memory is the first one there.
-    ensures fault { IfErr result (λ e. e ≢ faults.NoMemory → FaultAt (FieldWrong wrong.Word) body.now at e) }
+    ensures fault { HasFaultAt (FieldWrong wrong.Word) body.now at result }
     // The first fault there is answered, unless memory runs out.
-    ensures first { (e : WireFault) → FaultAt (FieldWrong wrong.Word) body.now at e → Answers faults.NoMemory result (Err e) }
+    ensures first { AnswersFaultAt (FieldWrong wrong.Word) body.now at result }
     // All of this, with the faults and their places, as a function.
     ensures exact { Answers faults.NoMemory result (field_at word_field body.now at) }
 {
@@ -141,11 +137,11 @@ pub fn read_job(alloc: Global, body: &[u8], at: usize) -> Result<(Job, usize), W
     // What is read is within its limits and stands between the two places.
     ensures ok { IfOk result (λ x. JobFits x.0 × Spans spelling.job body.now at x) }
     // One within its limits that stands there is read, unless memory runs out.
-    ensures complete { (x : Job) (rest : List ℕ) → JobFits x → drop at body.now ≡ spelling.job x ++ rest → Answers faults.NoMemory result (Ok (x, at + length (spelling.job x))) }
+    ensures complete { AnswersPartIfMemory spelling.job JobFits body.now at result }
     // Any fault but want of memory is the first one there.
-    ensures fault { IfErr result (λ e. e ≢ faults.NoMemory → FaultAt (FirstWrong FieldWrong job_fields) body.now at e) }
+    ensures fault { HasFaultAt (FirstWrong FieldWrong job_fields) body.now at result }
     // The first fault there is answered, unless memory runs out.
-    ensures first { (e : WireFault) → FaultAt (FirstWrong FieldWrong job_fields) body.now at e → Answers faults.NoMemory result (Err e) }
+    ensures first { AnswersFaultAt (FirstWrong FieldWrong job_fields) body.now at result }
     // All of this, with the faults and their places, as a function.
     ensures exact { Answers faults.NoMemory result (field_at job_field body.now at) }
 {
@@ -161,11 +157,11 @@ pub fn read_entry(alloc: Global, body: &[u8], at: usize) -> Result<(Entry, usize
     // What is read is within its limits and stands between the two places.
     ensures ok { IfOk result (λ x. EntryFits x.0 × Spans spelling.entry body.now at x) }
     // One within its limits that stands there is read, unless memory runs out.
-    ensures complete { (x : Entry) (rest : List ℕ) → EntryFits x → drop at body.now ≡ spelling.entry x ++ rest → Answers faults.NoMemory result (Ok (x, at + length (spelling.entry x))) }
+    ensures complete { AnswersPartIfMemory spelling.entry EntryFits body.now at result }
     // Any fault but want of memory is the first one there.
-    ensures fault { IfErr result (λ e. e ≢ faults.NoMemory → FaultAt (FieldWrong wrong.Entry) body.now at e) }
+    ensures fault { HasFaultAt (FieldWrong wrong.Entry) body.now at result }
     // The first fault there is answered, unless memory runs out.
-    ensures first { (e : WireFault) → FaultAt (FieldWrong wrong.Entry) body.now at e → Answers faults.NoMemory result (Err e) }
+    ensures first { AnswersFaultAt (FieldWrong wrong.Entry) body.now at result }
     // All of this, with the faults and their places, as a function.
     ensures exact { Answers faults.NoMemory result (field_at entry_field body.now at) }
 {

@@ -1,11 +1,10 @@
 //! Messages written as bytes. After an error some of the bytes may stand at the end.
-ghost use Rattle.std.specs.Prelude.{◌≡◌, ◌<◌, ◌≤◌, ◌^◌, ◌++◌, ◌∷◌, true, List, ℕ, length, map, take, OnOk, OnErr};
-ghost use Rattle.std.specs.Int.{w16, w64, to_be_bytes};
-ghost use Rattle.salt_value.specs.Spelling.{bytes, text as spelled_text, concatenation};
-ghost use Rattle.target_tree.specs.Kinds.{kind_code};
+ghost use Rattle.std.specs.Prelude.{◌≡◌, ◌<◌, ◌≤◌, ◌^◌, ◌++◌, ◌∷◌, true, List, ℕ, length, take, OnOk, OnErr};
+ghost use Rattle.salt_value.specs.Spelling.{bytes, text as spelled_text};
 ghost use Rattle.salt_value.specs.WellFormed.{ValueFits};
 ghost use Rattle.salt_value.specs.declared.value.Value.TheVariants as v;
 ghost use Rattle.salt_wire.specs.Spelling as spelling;
+ghost use Rattle.salt_wire.specs.Spelling.{question, AddsBody};
 ghost use Rattle.salt_wire.specs.declared.message.Message.TheVariants as m;
 ghost use Rattle.salt_wire.specs.Limits.{IsText, JobFits, EntryFits, Within};
 ghost use Rattle.salt_wire.specs.Limits as limits;
@@ -52,7 +51,7 @@ fn put_items(out: &mut Vec<u8>, items: &[Value]) -> Result<(), AllocError>
 // A key and its value.
 fn put_pair(out: &mut Vec<u8>, key: &Text, value: &Value) -> Result<(), AllocError>
     requires { (length key.now < 2 ^ 32) × ValueFits value.now }
-    ensures ok { OnOk result (out.new.items ≡ out.old.items ++ (spelled_text key.now ++ bytes value.now)) }
+    ensures ok { OnOk result (out.new.items ≡ out.old.items ++ spelling.pair key.now value.now) }
     ensures err { OnErr result ((more : List ℕ) × (out.new.items ≡ out.old.items ++ more)) }
 {
     put_text(out, key.as_bytes())?;
@@ -77,7 +76,7 @@ fn put_fields(out: &mut Vec<u8>, pairs: &[(Text, Value)]) -> Result<(), AllocErr
 // Ids, after the two bytes of their number.
 fn put_ids(out: &mut Vec<u8>, ids: &[MinionId]) -> Result<(), AllocError>
     requires { length ids.now ≤ 65535 }
-    ensures ok { OnOk result (out.new.items ≡ out.old.items ++ (to_be_bytes w16 (length ids.now) ++ concatenation (map spelling.id ids.now))) }
+    ensures ok { OnOk result (out.new.items ≡ out.old.items ++ spelling.ids ids.now) }
     ensures err { OnErr result ((more : List ℕ) × (out.new.items ≡ out.old.items ++ more)) }
 {
     put_u16(out, ids.len() as u16)?;
@@ -135,7 +134,7 @@ fn put_tree(out: &mut Vec<u8>, tree: &Target) -> Result<(), AllocError>
 // A function's name and its arguments.
 fn put_call(out: &mut Vec<u8>, fun: &Word, args: &[Value]) -> Result<(), AllocError>
     requires { ValueFits (v.List args.now) }
-    ensures ok { OnOk result (out.new.items ≡ out.old.items ++ (spelling.word fun.now ++ bytes (v.List args.now))) }
+    ensures ok { OnOk result (out.new.items ≡ out.old.items ++ spelling.call fun.now args.now) }
     ensures err { OnErr result ((more : List ℕ) × (out.new.items ≡ out.old.items ++ more)) }
 {
     put_word(out, fun)?;
@@ -198,7 +197,7 @@ pub fn put_entry(out: &mut Vec<u8>, entry: &Entry) -> Result<(), AllocError>
 // A kind of target, a text and a function's name.
 fn put_asked(out: &mut Vec<u8>, kind: Kind, tgt: &Text, fun: &Word) -> Result<(), AllocError>
     requires { IsText tgt.now }
-    ensures ok { OnOk result (out.new.items ≡ out.old.items ++ kind_code kind ∷ (spelled_text tgt.now ++ spelling.word fun.now)) }
+    ensures ok { OnOk result (out.new.items ≡ out.old.items ++ question kind tgt.now fun.now) }
     ensures err { OnErr result ((more : List ℕ) × (out.new.items ≡ out.old.items ++ more)) }
 {
     out.push(kind.code())?;
@@ -208,7 +207,7 @@ fn put_asked(out: &mut Vec<u8>, kind: Kind, tgt: &Text, fun: &Word) -> Result<()
 
 fn put_pub(out: &mut Vec<u8>, seq: u32, job: &Job) -> Result<(), AllocError>
     requires { Within (m.Pub seq job.now) }
-    ensures ok { OnOk result (out.new.items ≡ out.old.items ++ spelling.kind_and_fields (m.Pub seq job.now)) }
+    ensures ok { OnOk result (AddsBody (m.Pub seq job.now) out.old.items out.new.items) }
     ensures err { OnErr result ((more : List ℕ) × (out.new.items ≡ out.old.items ++ more)) }
 {
     out.push(0x01)?;
@@ -219,7 +218,7 @@ fn put_pub(out: &mut Vec<u8>, seq: u32, job: &Job) -> Result<(), AllocError>
 
 fn put_up(out: &mut Vec<u8>, minion: &MinionId, n: u32, entry: &Entry) -> Result<(), AllocError>
     requires { Within (m.Up minion.now n entry.now) }
-    ensures ok { OnOk result (out.new.items ≡ out.old.items ++ spelling.kind_and_fields (m.Up minion.now n entry.now)) }
+    ensures ok { OnOk result (AddsBody (m.Up minion.now n entry.now) out.old.items out.new.items) }
     ensures err { OnErr result ((more : List ℕ) × (out.new.items ≡ out.old.items ++ more)) }
 {
     out.push(0x03)?;
@@ -231,7 +230,7 @@ fn put_up(out: &mut Vec<u8>, minion: &MinionId, n: u32, entry: &Entry) -> Result
 // The kind and the fields of a message.
 fn put_fields_of(out: &mut Vec<u8>, message: &Message) -> Result<(), AllocError>
     requires { Within message.now }
-    ensures ok { OnOk result (out.new.items ≡ out.old.items ++ spelling.kind_and_fields message.now) }
+    ensures ok { OnOk result (AddsBody message.now out.old.items out.new.items) }
     ensures err { OnErr result ((more : List ℕ) × (out.new.items ≡ out.old.items ++ more)) }
 {
     match message {

@@ -176,3 +176,15 @@ has-tree kind groups text h = by (machine_target kind groups text) refl (subst (
     by : (r : Result Ended TargetFault) → machine_target kind groups text ≡ r → IsOk (erased counts_of r) → (t : Target) × IsTarget kind groups text t
     by (Ok e) g ok = (e.tree, stands kind groups text e g)
     by (Err f) g ok = cc
+
+-- what is read is no longer than the limit
+pub short-clause : (kind : Kind) (groups : List Group) (text : List ℕ) (r : Result Target TargetFault) → GivesTree r (machine_tree kind groups text) → IfOk r (λ _. length text ≤ 4096)
+short-clause kind groups text (Err e) h = tt
+short-clause kind groups text (Ok t) h = by (nat_le (length (target_words kind text)) 0) (nat_le 4097 (length text)) refl h
+  where
+    by : (a b : Bool) → nat_le 4097 (length text) ≡ b
+        → ((if a then Err Empty else if b then Err TooLong else (machine_all (machine_group 257 groups []) (target_words kind text) (machine_begun 0 0 0) >>= machine_end)) >>= tree_of) ≡ Ok t
+        → length text ≤ 4096
+    by true b e g = absurd cc
+    by false true e g = absurd cc
+    by false false e g = grind (arith, nat_tests)

@@ -4,6 +4,7 @@ use Rattle.std.specs.Borrow.{Bor}
 use Rattle.target_tree.specs.Nodegroups.{Group}
 use Rattle.target_tree.specs.declared.target.Target.{Target}
 use Rattle.target_tree.specs.declared.token.Token.{Token}
+use Rattle.target_tree.specs.declared.token.Token.TheVariants.{Nodegroup}
 use Rattle.target_tree.specs.declared.reader.Reader.{Reader as Machine}
 use Rattle.target_tree.specs.declared.run.Outer.{Outer}
 use Rattle.target_tree.specs.declared.fault.TargetFault.{TargetFault}
@@ -13,7 +14,7 @@ use Rattle.target_tree.specs.Words.{tokens_of}
 use Rattle.target_tree.specs.Nodegroups.{text_named, is_among}
 use Rattle.salt_value.specs.Readers.{◌>>=◌}
 use Rattle.target_tree.specs.Reading.{IsFaultAsRead}
-use Rattle.target_tree.specs.Machine.{machine_all, machine_end, machine_resumed, machine_group}
+use Rattle.target_tree.specs.Machine.{machine_all, machine_end, machine_resumed, machine_group, machine_begun}
 
 -- the names of the nodegroups that are being expanded
 abbrev pub names_of : List Outer → List (List ℕ)
@@ -56,6 +57,22 @@ abbrev pub GivesBy : {A B : Type 0} → (A → B) → Result A TargetFault → R
 GivesBy view (Ok x) to = to ≡ Ok (view x)
 GivesBy view (Err e) to = IsFaultAsRead e to
 
+-- What a function returned is the text of a nodegroup that may be read here.
+abbrev pub EntersText : List Group → List Outer → List ℕ → ℕ → Result (Bor (List ℕ)) TargetFault → Type 0
+EntersText groups outers name at result = GivesBy (λ x. x.now) result (group_entry groups (names_of outers) name at)
+
+-- What a function returned is the text that a nodegroup's word begins.
+abbrev pub OpensText : List Group → List Outer → List ℕ → Machine → Result (Bor (List ℕ)) TargetFault → Type 0
+OpensText groups outers name m result = GivesBy (λ x. x.now) result (group_text groups (names_of outers) name m)
+
+-- the start of a nodegroup's text, where its word stands
+abbrev pub IsInner : Machine → Machine → Type 0
+IsInner outer inner = inner ≡ machine_begun outer.part.nest.deep (outer.at + 1) outer.patterns
+
+-- the tree of what is left to be read
+abbrev pub rest_tree : List Group → List Outer → List ℕ → Machine → Result Target TargetFault
+rest_tree groups outers rest m = going (most_texts - length outers) groups outers (tokens_of rest) m
+
 -- A step from these texts to those: what is left then gives what was left before.
 pub record Goes (groups : List Group) (old new : List Outer) (reader : Machine) (words : List Token) (next : Machine) (rest : List ℕ) : Type 0 where
   pub same : going (most_texts - length old) groups old words reader ≡ going (most_texts - length new) groups new (tokens_of rest) next
@@ -67,3 +84,11 @@ pub record Goes (groups : List Group) (old new : List Outer) (reader : Machine) 
 abbrev pub ReadsOn : List Group → List Outer → List Outer → Machine → List Token → Result (Machine × Bor (List ℕ)) TargetFault → Type 0
 ReadsOn groups old new reader words (Ok x) = Goes groups old new reader words x.0 x.1.now
 ReadsOn groups old new reader words (Err e) = IsFaultAsRead e (going (most_texts - length old) groups old words reader)
+
+-- A step over this word goes on so, and these bytes follow it.
+abbrev pub ReadsWord : List Group → List Outer → List Outer → Machine → Token → List ℕ → Result (Machine × Bor (List ℕ)) TargetFault → Type 0
+ReadsWord groups old new reader word more result = ReadsOn groups old new reader (word ∷ tokens_of more) result
+
+-- A step over a nodegroup's word goes on so; the text that it stands in then waits.
+abbrev pub ReadsGroup : List Group → List Outer → List Outer → Outer → Result (Machine × Bor (List ℕ)) TargetFault → Type 0
+ReadsGroup groups old new outer result = ReadsWord groups old new outer.reader (Nodegroup outer.name) outer.rest.now result

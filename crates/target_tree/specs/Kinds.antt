@@ -20,10 +20,11 @@ row PillarPcre = record { code = 7; name = codes "pillar_pcre" }
 row Nodegroup = record { code = 8; name = codes "nodegroup" }
 row Compound = record { code = 9; name = codes "compound" }
 
--- the code and the name of a kind
+-- the code of a kind
 abbrev pub kind_code : Kind → ℕ
 kind_code kind = (row kind).code
 
+-- the name of a kind
 abbrev pub name_of : Kind → Texts ℕ
 name_of kind = (row kind).name
 

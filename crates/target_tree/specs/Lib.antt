@@ -8,3 +8,4 @@ pub mod Targets
 pub mod Parted
 pub mod Machine
 pub mod Going
+pub mod Stacks

@@ -1,7 +1,8 @@
 -- Nodegroups: names, and the texts that they stand for.
-use Rattle.std.specs.Prelude.{ℕ, Bool, List, map, is_some, Option, bytes_eq}
+use Rattle.std.specs.Prelude.{◌≡◌, ℕ, Bool, List, map, is_some, Option, None, Some, MatchOption, bytes_eq}
 use Rattle.std.specs.List.{list_any, AllByRecursion}
 use Rattle.std.specs.Map.{lookup}
+use Rattle.std.specs.Borrow.{Bor}
 use Rattle.salt_value.specs.Id.{IsId}
 
 -- a nodegroup: its name and its text
@@ -11,6 +12,10 @@ Group = List ℕ × List ℕ
 -- the text of the nodegroup that has this name
 abbrev pub text_named : List Group → List ℕ → Option (List ℕ)
 text_named groups name = lookup (bytes_eq name) groups
+
+-- the text of the nodegroup that has this name is answered, and none where no nodegroup has it
+abbrev pub FindsGroup : List Group → List ℕ → Option (Bor (List ℕ)) → Type 0
+FindsGroup groups name found = MatchOption found (text_named groups name ≡ None) (λ text. text_named groups name ≡ Some text.now)
 
 -- a nodegroup has this name
 abbrev pub is_named : List Group → List ℕ → Bool

@@ -1,5 +1,5 @@
 -- What `read_target` answers.
-use Rattle.std.specs.Prelude.{ℕ, nat_le, nat_lt, List, [], ◌∷◌, length, if◌then◌else◌, Result, Ok, Err, IsOk}
+use Rattle.std.specs.Prelude.{◌≡◌, ℕ, nat_le, nat_lt, List, [], ◌∷◌, length, if◌then◌else◌, Result, Ok, Err, IsOk}
 use Rattle.target_tree.specs.Nodegroups.{Group}
 use Rattle.target_tree.specs.declared.kind.Kind.{Kind}
 use Rattle.target_tree.specs.declared.kind.Kind.TheVariants.{Glob, Pcre, List as ListKind, Grain, GrainPcre as GrainPcreKind, Pillar, PillarPcre as PillarPcreKind, Nodegroup, Compound}
@@ -44,6 +44,10 @@ reading kind groups text =
 abbrev pub IsTarget : Kind → List Group → List ℕ → Target → Type 0
 IsTarget kind groups text tree = Stands groups [] compound (target_words kind text) tree
 
+-- the text of this kind stands for no other tree than this one
+abbrev pub IsOnlyTarget : Kind → List Group → List ℕ → Target → Type 0
+IsOnlyTarget kind groups text tree = (other : Target) → IsTarget kind groups text other → other ≡ tree
+
 -- A tree is answered where the reading has no fault; a fault that isn't want of memory is that of the reading.
 abbrev pub IsAsRead : Result Target TargetFault → Result Counts TargetFault → Type 0
 IsAsRead (Ok tree) read = IsOk read
@@ -63,7 +67,19 @@ IsReadUnlessRefused (Ok tree) = Unit {0}
 IsReadUnlessRefused (Err NoMemory) = Unit {0}
 IsReadUnlessRefused (Err fault) = IsLimit fault
 
+-- where the text of this kind stands for a tree, one is answered, but for the limits and memory
+abbrev pub IsReadIfTarget : Kind → List Group → List ℕ → Result Target TargetFault → Type 0
+IsReadIfTarget kind groups text result = (tree : Target) → IsTarget kind groups text tree → IsReadUnlessRefused result
+
 -- the reading has no fault but a limit
 abbrev pub IsReadUnlessLimit : Result Counts TargetFault → Type 0
 IsReadUnlessLimit (Ok counts) = Unit {0}
 IsReadUnlessLimit (Err fault) = IsLimit fault
+
+-- each text that is read without a fault stands for a tree
+abbrev pub HaveTrees : (Kind → List Group → List ℕ → Result Counts TargetFault) → Type 0
+HaveTrees read = (kind : Kind) (groups : List Group) (text : List ℕ) → IsOk (read kind groups text) → (t : Target) × IsTarget kind groups text t
+
+-- each text that stands for a tree is read without a fault but a limit
+abbrev pub ReadsTrees : (Kind → List Group → List ℕ → Result Counts TargetFault) → Type 0
+ReadsTrees read = (kind : Kind) (groups : List Group) (text : List ℕ) (t : Target) → IsTarget kind groups text t → IsReadUnlessLimit (read kind groups text)

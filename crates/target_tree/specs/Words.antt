@@ -1,5 +1,5 @@
 -- The words of a compound, and what each one is.
-use Rattle.std.specs.Prelude.{ℕ, Bool, true, false, ◌&&◌, ◌||◌, ◌==◌, nat_le, List, [], ◌∷◌, length, drop, slice_index, codes, not, if◌then◌else◌, map, filter, reverse, bytes_eq}
+use Rattle.std.specs.Prelude.{◌≡◌, Option, MatchOption, ℕ, Bool, true, false, ◌&&◌, ◌||◌, ◌==◌, nat_le, List, [], ◌∷◌, length, drop, slice_index, codes, not, if◌then◌else◌, map, filter, reverse, bytes_eq}
 use Rattle.std.specs.List.{list_all, list_any, slice_split}
 use Rattle.salt_value.specs.Id.{is_id_byte}
 use Rattle.target_tree.specs.declared.token.Token.{Token}
@@ -27,6 +27,10 @@ trimmed_item item = reverse (without_spaces (reverse (without_spaces item)))
 -- 1 to 64 bytes that ids have
 abbrev pub is_id : List ℕ → Bool
 is_id bytes = nat_le 1 (length bytes) && nat_le (length bytes) 64 && list_all is_id_byte bytes
+
+-- The id that an item of a list is, and none where it is no id. No public contract cites it.
+abbrev pub IsIdOf : List ℕ → Option (List ℕ) → Type 0
+IsIdOf item found = MatchOption found (is_id (trimmed_item item) ≡ false) (λ id. (id ≡ trimmed_item item) × (is_id id ≡ true))
 
 -- the items of a list, between commas
 unfoldable pub list_items : List ℕ → List (List ℕ)

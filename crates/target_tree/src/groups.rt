@@ -1,6 +1,6 @@
 //! Nodegroups.
-ghost use Rattle.std.specs.Prelude.{◌≡◌, [], ◌∷◌, ◌++◌, ◌↔◌, IsTrue, MatchOption, None, Some, Err, IfErr, OnOk, OnErr};
-ghost use Rattle.target_tree.specs.Nodegroups.{text_named, is_named, HaveIds};
+ghost use Rattle.std.specs.Prelude.{◌≡◌, [], ◌∷◌, ◌++◌, ◌↔◌, IsTrue, None, Err, IfErr, OnOk, OnErr};
+ghost use Rattle.target_tree.specs.Nodegroups.{FindsGroup, text_named, is_named, HaveIds};
 ghost use Rattle.salt_value.specs.Id.{IsId};
 
 use indexmap::IndexMap;
@@ -82,7 +82,7 @@ impl Groups {
 
     /// The text of a name, if a nodegroup has it.
     pub fn find(&self, name: &str) -> Option<&Text>
-        ensures { MatchOption result (text_named self.now name.now ≡ None) (λ text. text_named self.now name.now ≡ Some text.now) }
+        ensures { FindsGroup self.now name.now result }
     {
         match MinionId::read(name) {
             Ok(id) => self.texts.get(&id),

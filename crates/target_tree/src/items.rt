@@ -1,6 +1,6 @@
 //! Lists of ids.
-ghost use Rattle.std.specs.Prelude.{◌≡◌, true, false, reverse, IfOk, MatchOption};
-ghost use Rattle.target_tree.specs.Words.{id_list, is_id, trimmed_item, without_spaces};
+ghost use Rattle.std.specs.Prelude.{◌≡◌, reverse, IfOk};
+ghost use Rattle.target_tree.specs.Words.{IsIdOf, id_list, trimmed_item, without_spaces};
 
 use crate::Target;
 use crate::token::{Token, leaf};
@@ -37,7 +37,7 @@ fn without_ends(item: &[u8]) -> &[u8]
 
 /// The id that an item of a list is.
 fn id_of(item: &str) -> Option<MinionId>
-    ensures { MatchOption result (is_id (trimmed_item item.now) ≡ false) (λ id. (id ≡ trimmed_item item.now) × (is_id id ≡ true)) }
+    ensures { IsIdOf item.now result }
 {
     match MinionId::from_bytes(without_ends(item.as_bytes())) {
         Ok(id) => Some(id),

@@ -1,11 +1,8 @@
 //! The reading of a whole target.
-ghost use Rattle.std.specs.Prelude.{◌≡◌, ◌≢◌, IfOk, IsOk};
-ghost use Rattle.target_tree.specs.declared.target.Target.{Target as Tree};
-ghost use Rattle.target_tree.specs.declared.kind.Kind.{Kind as AnyKind};
-ghost use Rattle.target_tree.specs.Nodegroups.{Group};
-ghost use Rattle.std.specs.Prelude.{ℕ, List};
+ghost use Rattle.std.specs.Prelude.{◌≡◌, ◌≢◌, ◌≤◌, length, IfOk};
+ghost use Rattle.target_tree.specs.Limits.{most_text_bytes};
 ghost use Rattle.target_tree.specs.Machine.{GivesTree, machine_tree};
-ghost use Rattle.target_tree.specs.Targets.{IsTarget, IsReadUnlessLimit, IsReadUnlessRefused, IsAsRead, reading, sole_word};
+ghost use Rattle.target_tree.specs.Targets.{IsTarget, IsOnlyTarget, IsReadIfTarget, HaveTrees, ReadsTrees, IsAsRead, reading, sole_word};
 
 use crate::items::id_list_of;
 use crate::limits::MOST_TEXT_BYTES;
@@ -18,8 +15,8 @@ use std::alloc::{AllocError, Global};
 
 /// A text stands for a tree exactly where its reading has no fault, but for the limits.
 pub fn trees_are_read()
-    ensures has_tree { (kind : AnyKind) (groups : List Group) (text : List ℕ) → IsOk (reading kind groups text) → (t : Tree) × IsTarget kind groups text t }
-    ensures is_read { (kind : AnyKind) (groups : List Group) (text : List ℕ) (t : Tree) → IsTarget kind groups text t → IsReadUnlessLimit (reading kind groups text) }
+    ensures has_tree { HaveTrees reading }
+    ensures is_read { ReadsTrees reading }
 {}
 
 /// The one word of another kind than compound.
@@ -106,8 +103,10 @@ pub fn read_target(
     // Each fault comes exactly where the reading has it.
     ensures fault { IsAsRead result (reading kind groups.now text.now) }
     // Every text that stands for a tree is read, but for the limits and memory.
-    ensures complete { (tree : Tree) → IsTarget kind groups.now text.now tree → IsReadUnlessRefused result }
-    ensures unique { IfOk result (λ tree. (other : Tree) → IsTarget kind groups.now text.now other → other ≡ tree) }
+    ensures complete { IsReadIfTarget kind groups.now text.now result }
+    ensures unique { IfOk result (IsOnlyTarget kind groups.now text.now) }
+    // No text that is read is longer than the limit.
+    ensures short { IfOk result (λ _. length text.now ≤ most_text_bytes) }
     // The tree, as one function of the text.
     ensures exact { GivesTree result (machine_tree kind groups.now text.now) }
 {

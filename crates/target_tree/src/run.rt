@@ -3,8 +3,8 @@ ghost use Rattle.std.specs.Prelude.{◌≡◌, ◌+◌, ◌-◌, ◌≤◌, ◌<
 ghost use Rattle.target_tree.specs.Limits.{most_words, most_texts};
 ghost use Rattle.target_tree.specs.Words.{tokens_of, token};
 ghost use Rattle.target_tree.specs.Nodegroups.{is_among};
-ghost use Rattle.target_tree.specs.Machine.{GivesTree, machine_begun};
-ghost use Rattle.target_tree.specs.Going.{GivesBy, ReadsOn, going, group_entry, group_text, within, names_of};
+ghost use Rattle.target_tree.specs.Machine.{GivesTree};
+ghost use Rattle.target_tree.specs.Going.{GivesBy, EntersText, OpensText, IsInner, ReadsWord, ReadsGroup, rest_tree, within, names_of};
 
 use crate::limits::{MOST_TEXT_BYTES, MOST_WORDS};
 use crate::reader::{Ended, Reader};
@@ -55,7 +55,7 @@ fn enter<'a>(
     name: &Text,
     at: u32,
 ) -> Result<&'a str, TargetFault>
-    ensures { GivesBy (λ x. x.now) result (group_entry groups.entry.now (names_of outers.now) name.now at) }
+    ensures { EntersText groups.entry.now outers.now name.now at result }
 {
     let Some(text) = groups.find(name.as_str()) else {
         return Err(TargetFault::UnknownGroup { at });
@@ -73,7 +73,7 @@ fn open_group<'a>(
     reader: &Reader,
     name: &Text,
 ) -> Result<&'a str, TargetFault>
-    ensures { GivesBy (λ x. x.now) result (group_text groups.entry.now (names_of outers.now) name.now reader.now) }
+    ensures { OpensText groups.entry.now outers.now name.now reader.now result }
 {
     let at = reader.at;
     if at >= MOST_WORDS {
@@ -92,7 +92,7 @@ fn begin_group<'a>(
     outer: Outer<'a>,
 ) -> Result<Reader, TargetFault>
     requires { outer.reader.at < most_words }
-    ensures ok { IfOk result (λ x. x ≡ machine_begun outer.entry.reader.part.nest.deep (outer.entry.reader.at + 1) outer.entry.reader.patterns) }
+    ensures ok { IfOk result (IsInner outer.entry.reader) }
     ensures outers { OnOk result (outers.new ≡ outer.entry ∷ outers.old) }
     ensures memory { IfErr result (λ e. e ≡ TargetFault.NoMemory) }
 {
@@ -114,7 +114,7 @@ fn group_word<'a>(
     outer: Outer<'a>,
 ) -> Result<(Reader, &'a str), TargetFault>
     requires { (length outers.old ≤ outer.reader.at) × (outer.reader.at ≤ most_words) }
-    ensures { ReadsOn groups.entry.now outers.old outers.new outer.entry.reader (Token.Nodegroup outer.entry.name ∷ tokens_of outer.entry.rest.now) result }
+    ensures { ReadsGroup groups.entry.now outers.old outers.new outer.entry result }
 {
     let text = open_group(groups, outers, &outer.reader, &outer.name)?;
     let inner = begin_group(alloc, outers, outer)?;
@@ -131,7 +131,7 @@ pub fn one_word<'a>(
     more: &'a str,
 ) -> Result<(Reader, &'a str), TargetFault>
     requires { (length outers.old ≤ reader.at) × (reader.at ≤ most_words) }
-    ensures { ReadsOn groups.entry.now outers.old outers.new reader (word ∷ tokens_of more.entry.now) result }
+    ensures { ReadsWord groups.entry.now outers.old outers.new reader word more.entry.now result }
 {
     match word {
         Token::Nodegroup(name) => {
@@ -158,7 +158,7 @@ pub fn run<'a>(
     rest: &'a str,
 ) -> Result<Target, TargetFault>
     requires { (length outers ≤ reader.at) × (reader.at ≤ most_words) }
-    ensures { GivesTree result (going (most_texts - length outers.entry) groups.entry.now outers.entry (tokens_of rest.entry.now) reader) }
+    ensures { GivesTree result (rest_tree groups.entry.now outers.entry rest.entry.now reader) }
 {
     let mut outers = outers;
     let mut reader = reader;

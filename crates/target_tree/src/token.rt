@@ -1,8 +1,8 @@
 //! What a word is.
-ghost use Rattle.std.specs.Prelude.{◌≡◌, false, IfOk, MatchOption};
-ghost use Rattle.target_tree.specs.Words.{token, letter_leaf, operand_token, is_paren, is_kind_letter, is_lettered};
+ghost use Rattle.std.specs.Prelude.{◌≡◌, IfOk};
+ghost use Rattle.target_tree.specs.Words.{token, letter_leaf, operand_token, is_paren, is_kind_letter};
 ghost use Rattle.std.specs.List.{list_any};
-ghost use Rattle.target_tree.specs.Parted.{IsParted};
+ghost use Rattle.target_tree.specs.Parted.{PartsWord};
 
 use crate::Target;
 use crate::items::id_list_of;
@@ -79,7 +79,7 @@ fn has_paren(word: &str) -> bool
 
 /// The capital before an `@` in the second place, and what follows it.
 fn parted(word: &str) -> Option<(u8, &str)>
-    ensures { MatchOption result (is_lettered word.now ≡ false) (λ x. IsParted word.now x.0 x.1.now) }
+    ensures { PartsWord word.now result }
 {
     let Some((front, text)) = word.split_once('@') else {
         return None;
