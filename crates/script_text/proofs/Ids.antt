@@ -10,7 +10,8 @@ use Rattle.std.proofs.lemmas.List.Sums.{prefix_len_passes}
 use Rattle.std.proofs.lemmas.Map.Keys.{IsDistinct-push}
 use Rattle.std.specs.Cmp.Lexicographic.{nat_list_eq_equiv}
 use Rattle.salt_value.specs.Id.{IsId, is_id_byte}
-use Rattle.fleet_config.specs.Tree.{minion_of, id_of, parent_of, is_parent}
+use Rattle.fleet_config.specs.declared.fleet.Role.TheVariants as role
+use Rattle.fleet_config.specs.Tree.{plain_member, id_of, parent_of, is_parent}
 use Rattle.script_text.specs.Lines.{Lacks}
 use Rattle.script_text.specs.Script.{IsName, HasIds}
 use Rattle.script_text.specs.Fleet.{tree_by, AreIds}
@@ -18,7 +19,7 @@ use Rattle.script_text.specs.Turns.{are_neighbours}
 use Rattle.script_text.proofs.Words.{no_place}
 
 -- the nodes of a fleet are as many as its ids
-map_len : (ids : List (List ℕ)) → length (map minion_of ids) ≡ length ids
+map_len : (ids : List (List ℕ)) → length (map (plain_member role.Minion) ids) ≡ length ids
 map_len [] = refl
 map_len (x ∷ xs) = ap suc (map_len xs)
 
@@ -26,7 +27,7 @@ pub count_by : (ids : List (List ℕ)) → length (tree_by ids) ≡ length ids
 count_by [] = refl
 count_by (top ∷ minions) = ap suc (map_len minions)
 
-minion_at : (ids : List (List ℕ)) (i : ℕ) → id_of (map minion_of ids) i ≡ get_or ids i []
+minion_at : (ids : List (List ℕ)) (i : ℕ) → id_of (map (plain_member role.Minion) ids) i ≡ get_or ids i []
 minion_at [] i = refl
 minion_at (x ∷ xs) zero = refl
 minion_at (x ∷ xs) (suc i) = minion_at xs i
@@ -37,7 +38,7 @@ id_at [] i = refl
 id_at (top ∷ minions) zero = refl
 id_at (top ∷ minions) (suc i) = minion_at minions i
 
-minion_parent : (ids : List (List ℕ)) (i : ℕ) → parent_of (map minion_of ids) i ≡ 0
+minion_parent : (ids : List (List ℕ)) (i : ℕ) → parent_of (map (plain_member role.Minion) ids) i ≡ 0
 minion_parent [] i = refl
 minion_parent (x ∷ xs) zero = refl
 minion_parent (x ∷ xs) (suc i) = minion_parent xs i

@@ -1,8 +1,7 @@
 -- The ids of a fleet as one list, that of the top first.
 use Rattle.std.specs.Prelude.{List, ℕ, [], ◌∷◌}
-use Rattle.fleet_config.specs.Limits.{most_jobs}
 use Rattle.fleet_config.specs.Tree.{Tree, flat_tree}
-use Rattle.fleet_config.specs.Fleet.{FleetConfig}
+use Rattle.fleet_config.specs.Fleet.{FleetConfig, fleet_with}
 use Rattle.script_text.specs.Script.{HasIds}
 
 -- No public contract cites it. A top with the first of these ids, and minions with the others
@@ -12,7 +11,7 @@ tree_by (top ∷ minions) = flat_tree top minions
 
 -- No public contract cites it. The fleet of that tree, as scripts have it
 abbrev pub fleet_by : List (List ℕ) → FleetConfig
-fleet_by ids = record { tree = tree_by ids; max_jobs = most_jobs }
+fleet_by ids = fleet_with (tree_by ids)
 
 -- No public contract cites it. These may be the ids of a fleet
 abbrev pub AreIds : List (List ℕ) → Type 0

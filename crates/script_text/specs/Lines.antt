@@ -1,5 +1,5 @@
 -- The lines and the words of a text.
-use Rattle.std.specs.Prelude.{ℕ, ◌≡◌, ◌==◌, false, List, [], ◌∷◌, ◌++◌, if◌then◌else◌}
+use Rattle.std.specs.Prelude.{ℕ, ◌≡◌, ◌==◌, ◌&&◌, ◌||◌, nat_le, Bool, true, false, List, [], ◌∷◌, ◌++◌, length, if◌then◌else◌}
 use Rattle.std.specs.List.{onto_first, AllByRecursion}
 
 -- the lines of a text: each ends with a line feed, the last one with it or with the text
@@ -16,3 +16,8 @@ abbrev pub spaced_words : List (List ℕ) → List ℕ
 spaced_words [] = []
 spaced_words (word ∷ []) = word
 spaced_words (word ∷ next ∷ words) = word ++ 32 ∷ spaced_words (next ∷ words)
+
+-- A text begins as a number in decimal: with a digit from 1 to 9, or it is `0`. No public contract cites it.
+abbrev pub begins_as_decimal : List ℕ → Bool
+begins_as_decimal [] = false
+begins_as_decimal (b ∷ rest) = (nat_le 49 b && nat_le b 57) || (b == 48 && (length rest == 0))

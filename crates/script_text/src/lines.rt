@@ -1,9 +1,9 @@
 //! Parts of a text.
-ghost use Rattle.std.specs.Prelude.{◌≡◌, ◌≢◌, ◌∷◌, ◌++◌, ◌<◌, ◌^◌, ◌==◌, [], ℕ, List, IfOk, IfSome, IfNone, MatchOption, decimal, length, position};
+ghost use Rattle.std.specs.Prelude.{◌≡◌, ◌≢◌, ◌∷◌, ◌++◌, ◌<◌, ◌^◌, ◌==◌, [], ℕ, List, IfSome, IfNone, MatchOption, decimal, length, position};
 ghost use Rattle.salt_value.specs.Reading.{Decodes};
+ghost use Rattle.script_text.specs.Lines as spec;
 ghost use Rattle.script_text.specs.Lines.{lines_of, Lacks};
 
-use std::alloc::{AllocError, Global};
 use std::str;
 
 /// What stands before the first byte that is this mark, and after it.
@@ -59,21 +59,27 @@ pub fn strip_back<'a>(text: &'a [u8], tail: &[u8]) -> Option<&'a [u8]>
     text.strip_suffix(tail)
 }
 
-/// The number that is written so.
-#[tactic(auto, using(crate::proofs::Numbers::utf8_decimal, crate::proofs::Numbers::parsed, crate::proofs::Numbers::decimal_one))]
-pub fn read_number(alloc: Global, text: &[u8]) -> Result<Option<u64>, AllocError>
-    ensures { IfOk result (Decodes (λ n. n < 2 ^ 64) decimal text.now) }
+/// The number that is written so in decimal.
+#[tactic(auto, using(crate::proofs::Numbers::utf8_decimal, crate::proofs::Numbers::begins, crate::proofs::Numbers::parsed))]
+pub fn read_number(text: &[u8]) -> Option<u64>
+    ensures { Decodes (λ n. n < 2 ^ 64) decimal text.now result }
 {
+    if !begins_as_decimal(text) {
+        return None;
+    }
     let Ok(digits) = str::from_utf8(text) else {
-        return Ok(None);
+        return None;
     };
-    let Ok(n) = digits.parse::<u64>() else {
-        return Ok(None);
-    };
-    let again = n.to_string(alloc)?;
-    if again.as_bytes() == text {
-        Ok(Some(n))
-    } else {
-        Ok(None)
+    digits.parse().ok()
+}
+
+// `0` alone, or a digit from 1 to 9 and what stands after it.
+fn begins_as_decimal(text: &[u8]) -> bool
+    ensures { result ≡ spec.begins_as_decimal text.now }
+{
+    match text {
+        [b'0'] => true,
+        [b'1'..=b'9', ..] => true,
+        _ => false,
     }
 }

@@ -1,15 +1,13 @@
 //! The lines of turns.
-ghost use Rattle.std.specs.Prelude.{◌≡◌, [], ◌++◌, ◌↔◌, ℕ, List, codes, IsTrue, IfOk, IfSome, IfNone};
+ghost use Rattle.std.specs.Prelude.{◌≡◌, ◌++◌, ◌↔◌, codes, IsTrue, IfOk, IfSome, IfNone};
 ghost use Rattle.std.specs.List.{list_all};
 ghost use Rattle.salt_value.specs.Reading.{Decodes};
-ghost use Rattle.salt_value.specs.Jid.{jid_text};
-ghost use Rattle.fleet_config.specs.Tree.{id_of};
-ghost use Rattle.fleet_turns.specs.declared.turn.Turn.TheVariants as kind;
+ghost use Rattle.fleet_config.specs.Fleet.{FleetConfig};
 ghost use Rattle.script_text.specs.Script as spec;
-ghost use Rattle.script_text.specs.Turns as spec_turns;
-ghost use Rattle.script_text.specs.Script.{MayStand, IsPattern, turn_line};
+ghost use Rattle.script_text.specs.Script.{IsPattern};
 ghost use Rattle.script_text.specs.Fleet.{fleet_by, tree_by, AreIds};
-ghost use Rattle.script_text.specs.Turns.{target_text, IsPublication, publication_text, IsPlaceIn, node_text, IsSending, sending_text};
+ghost use Rattle.script_text.specs.Turns as spec_turns;
+ghost use Rattle.script_text.specs.Turns.{ReadsTurn, target_text, IsPublication, publication_text, ReadsNode, HasNode, HasNoNode, ReadsSending};
 
 use crate::lines::{cut, read_number, strip_back, strip_front};
 use exec_functions::{Function, Query};
@@ -30,29 +28,24 @@ pub fn read_turn(
     line: &[u8],
 ) -> Result<Option<Turn>, AllocError>
     requires { AreIds ids.now.keys }
-    ensures { IfOk result (Decodes (MayStand (fleet_by ids.now.keys)) (turn_line (fleet_by ids.now.keys)) line.now) }
+    ensures { IfOk result (ReadsTurn (fleet_by ids.now.keys) line.now) }
 {
     if let Some(rest) = strip_front(line, b"publish ") {
-        read_publish(alloc, ids, rest, line)
+        read_publish(alloc, rest)
     } else if let Some(rest) = strip_front(line, b"send ") {
-        read_send(alloc, ids, rest, line)
+        Ok(read_send(ids, rest))
     } else if let Some(rest) = strip_front(line, b"deliver ") {
-        read_deliver(alloc, ids, rest, line)
+        Ok(read_deliver(rest))
     } else if let Some(rest) = strip_front(line, b"report ") {
-        Ok(read_report(ids, rest, line))
+        Ok(read_report(rest))
     } else {
         Ok(None)
     }
 }
 
-fn read_publish(
-    alloc: Global,
-    ids: &IndexSet<MinionId>,
-    rest: &[u8],
-    line: &[u8],
-) -> Result<Option<Turn>, AllocError>
-    requires { line.now ≡ codes "publish " ++ rest.now }
-    ensures { IfOk result (Decodes (MayStand (fleet_by ids.now.keys)) (turn_line (fleet_by ids.now.keys)) line.now) }
+// The turn of a line of which this stands after `publish `.
+fn read_publish(alloc: Global, rest: &[u8]) -> Result<Option<Turn>, AllocError>
+    ensures { IfOk result (λ turn. (f : FleetConfig) → ReadsTurn f (codes "publish " ++ rest.now) turn) }
 {
     match read_publication(alloc, rest)? {
         Some((moment, tgt)) => Ok(Some(ping(alloc, moment, tgt)?)),
@@ -80,7 +73,7 @@ fn read_publication(alloc: Global, text: &[u8]) -> Result<Option<(u64, Text)>, A
     let Some((digits, rest)) = cut(text, b' ') else {
         return Ok(None);
     };
-    let Some(moment) = read_number(alloc, digits)? else {
+    let Some(moment) = read_number(digits) else {
         return Ok(None);
     };
     match read_target(alloc, rest)? {
@@ -136,7 +129,7 @@ fn read_pattern(alloc: Global, text: &[u8]) -> Result<Option<Text>, AllocError>
 // The number of the node with this id.
 fn node_of(ids: &IndexSet<MinionId>, word: &[u8]) -> Option<NodeId>
     requires { AreIds ids.now.keys }
-    ensures { Decodes (IsPlaceIn (tree_by ids.now.keys)) (id_of (tree_by ids.now.keys)) word.now result }
+    ensures { ReadsNode (tree_by ids.now.keys) word.now result }
 {
     let Ok(id) = MinionId::from_bytes(word) else {
         return None;
@@ -150,8 +143,8 @@ fn node_of(ids: &IndexSet<MinionId>, word: &[u8]) -> Option<NodeId>
 // The node whose id stands before the first space, and what stands after it.
 fn read_node<'a>(ids: &IndexSet<MinionId>, text: &'a [u8]) -> Option<(NodeId, &'a [u8])>
     requires { AreIds ids.now.keys }
-    ensures some { IfSome result (λ r. IsPlaceIn (tree_by ids.now.keys) r.0 × (text.now ≡ node_text (tree_by ids.now.keys) r.0 r.1.now)) }
-    ensures none { IfNone result ((n : ℕ) (rest : List ℕ) → IsPlaceIn (tree_by ids.now.keys) n → text.now ≡ node_text (tree_by ids.now.keys) n rest → ⊥) }
+    ensures some { IfSome result (λ r. HasNode (tree_by ids.now.keys) text.now r.0 r.1.now) }
+    ensures none { IfNone result (HasNoNode (tree_by ids.now.keys) text.now) }
 {
     let Some((word, rest)) = cut(text, b' ') else {
         return None;
@@ -163,23 +156,19 @@ fn read_node<'a>(ids: &IndexSet<MinionId>, text: &'a [u8]) -> Option<(NodeId, &'
 }
 
 // `FROM TO N`.
-fn read_sending(
-    alloc: Global,
-    ids: &IndexSet<MinionId>,
-    text: &[u8],
-) -> Result<Option<(NodeId, (NodeId, u64))>, AllocError>
+fn read_sending(ids: &IndexSet<MinionId>, text: &[u8]) -> Option<(NodeId, (NodeId, u64))>
     requires { AreIds ids.now.keys }
-    ensures { IfOk result (Decodes (IsSending (tree_by ids.now.keys)) (sending_text (tree_by ids.now.keys)) text.now) }
+    ensures { ReadsSending (tree_by ids.now.keys) text.now result }
 {
     let Some(from) = read_node(ids, text) else {
-        return Ok(None);
+        return None;
     };
     let Some(to) = read_node(ids, from.1) else {
-        return Ok(None);
+        return None;
     };
-    match read_number(alloc, to.1)? {
-        Some(count) => Ok(Some((from.0, (to.0, count)))),
-        None => Ok(None),
+    match read_number(to.1) {
+        Some(count) => Some((from.0, (to.0, count))),
+        None => None,
     }
 }
 
@@ -190,45 +179,35 @@ fn are_neighbours(a: NodeId, b: NodeId) -> bool
     (a.place() == 0 && 0 < b.place()) || (b.place() == 0 && 0 < a.place())
 }
 
-fn read_send(
-    alloc: Global,
-    ids: &IndexSet<MinionId>,
-    rest: &[u8],
-    line: &[u8],
-) -> Result<Option<Turn>, AllocError>
-    requires ids { AreIds ids.now.keys }
-    requires line { line.now ≡ codes "send " ++ rest.now }
-    ensures { IfOk result (Decodes (MayStand (fleet_by ids.now.keys)) (turn_line (fleet_by ids.now.keys)) line.now) }
+// The turn of a line of which this stands after `send `.
+fn read_send(ids: &IndexSet<MinionId>, rest: &[u8]) -> Option<Turn>
+    requires { AreIds ids.now.keys }
+    ensures { ReadsTurn (fleet_by ids.now.keys) (codes "send " ++ rest.now) result }
 {
-    let Some(sending) = read_sending(alloc, ids, rest)? else {
-        return Ok(None);
+    let Some(sending) = read_sending(ids, rest) else {
+        return None;
     };
     let (from, (to, count)) = sending;
     if are_neighbours(from, to) {
-        Ok(Some(Turn::Send { from, to, count }))
+        Some(Turn::Send { from, to, count })
     } else {
-        Ok(None)
+        None
     }
 }
 
-fn read_deliver(
-    alloc: Global,
-    ids: &IndexSet<MinionId>,
-    rest: &[u8],
-    line: &[u8],
-) -> Result<Option<Turn>, AllocError>
-    requires { line.now ≡ codes "deliver " ++ rest.now }
-    ensures { IfOk result (Decodes (MayStand (fleet_by ids.now.keys)) (turn_line (fleet_by ids.now.keys)) line.now) }
+// The turn of a line of which this stands after `deliver `.
+fn read_deliver(rest: &[u8]) -> Option<Turn>
+    ensures { (f : FleetConfig) → ReadsTurn f (codes "deliver " ++ rest.now) result }
 {
-    match read_number(alloc, rest)? {
-        Some(packet) => Ok(Some(Turn::Deliver { packet })),
-        None => Ok(None),
+    match read_number(rest) {
+        Some(packet) => Some(Turn::Deliver { packet }),
+        None => None,
     }
 }
 
-fn read_report(ids: &IndexSet<MinionId>, rest: &[u8], line: &[u8]) -> Option<Turn>
-    requires { line.now ≡ codes "report " ++ rest.now }
-    ensures { Decodes (MayStand (fleet_by ids.now.keys)) (turn_line (fleet_by ids.now.keys)) line.now result }
+// The turn of a line of which this stands after `report `.
+fn read_report(rest: &[u8]) -> Option<Turn>
+    ensures { (f : FleetConfig) → ReadsTurn f (codes "report " ++ rest.now) result }
 {
     match Jid::read(rest) {
         Some(jid) => Some(Turn::Report { jid }),

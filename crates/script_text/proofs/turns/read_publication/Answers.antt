@@ -6,16 +6,16 @@ pub returns-in_default : goal.returns-in_default
 returns-in_default c =
     no_space publication_parts c.args.text.now (c.in_default.ensures {u = tt}).none
 
-pub returns-in_default-2 : goal.returns-in_default-2
-returns-in_default-2 c =
+pub returns-in_default-read_number : goal.returns-in_default-read_number
+returns-in_default-read_number c =
     let cut = (c.in-Some.ensures {u = tt}).some in
-    no_first publication_parts c.in-Some.digits.now c.in-Some.rest.now c.args.text.now cut.0 cut.1 (rw c.in_default-2.is at (c.in_ok-moment.ensures {u = tt}))
+    no_first publication_parts c.in-Some.digits.now c.in-Some.rest.now c.args.text.now cut.0 cut.1 (rw c.in_default-read_number.is at (c.read_number.ensures))
 
-pub returns-in-Some-3 : goal.returns-in-Some-3
-returns-in-Some-3 c =
+pub returns-in-Some-2 : goal.returns-in-Some-2
+returns-in-Some-2 c =
     let cut = (c.in-Some.ensures {u = tt}).some in
-    pair_found publication_parts c.in-Some-2.moment c.in-Some-3.tgt c.in-Some.digits.now c.in-Some.rest.now c.args.text.now cut.0 cut.1
-    (rw c.in-Some-2.is at (c.in_ok-moment.ensures {u = tt})) (rw c.in-Some-3.is at (c.in_ok-tgt.ensures {u = tt}))
+    pair_found publication_parts c.in-Some-read_number.moment c.in-Some-2.tgt c.in-Some.digits.now c.in-Some.rest.now c.args.text.now cut.0 cut.1
+    (rw c.in-Some-read_number.is at (c.read_number.ensures)) (rw c.in-Some-2.is at (c.in_ok-tgt.ensures {u = tt}))
 
 pub returns-in-None : goal.returns-in-None
 returns-in-None c =

@@ -9,16 +9,16 @@ returns-in_default-read_node c =
     let from = (c.in-Some.ensures {u = tt}).some in
     no_receiver c.args.ids.now.keys c.requires c.in-Some.from.0 c.args.text.now c.in-Some.from.1.now from.0 from.1 (c.in_default-read_node.ensures {u = tt}).none
 
-pub returns-in-Some-2 : goal.returns-in-Some-2
-returns-in-Some-2 c =
+pub returns-in-Some-read_number : goal.returns-in-Some-read_number
+returns-in-Some-read_number c =
     let from = (c.in-Some.ensures {u = tt}).some in
     let to = (c.in-Some-read_node.ensures {u = tt}).some in
-    sending_found c.args.ids.now.keys c.requires c.in-Some.from.0 c.in-Some-read_node.to.0 c.in-Some-2.count c.args.text.now c.in-Some.from.1.now c.in-Some-read_node.to.1.now
-    from.0 from.1 to.0 to.1 (rw c.in-Some-2.is at (c.in_ok-count.ensures {u = tt}))
+    sending_found c.args.ids.now.keys c.requires c.in-Some.from.0 c.in-Some-read_node.to.0 c.in-Some-read_number.count c.args.text.now c.in-Some.from.1.now c.in-Some-read_node.to.1.now
+    from.0 from.1 to.0 to.1 (rw c.in-Some-read_number.is at (c.read_number.ensures))
 
 pub returns-in-None : goal.returns-in-None
 returns-in-None c =
     let from = (c.in-Some.ensures {u = tt}).some in
     let to = (c.in-Some-read_node.ensures {u = tt}).some in
     no_count c.args.ids.now.keys c.requires c.in-Some.from.0 c.in-Some-read_node.to.0 c.args.text.now c.in-Some.from.1.now c.in-Some-read_node.to.1.now
-    from.0 from.1 to.0 to.1 (rw c.in-None.is at (c.in_ok-count.ensures {u = tt}))
+    from.0 from.1 to.0 to.1 (rw c.in-None.is at (c.read_number.ensures))
