@@ -1,11 +1,15 @@
--- Where a turn meets a pattern that is too big to match with.
-use Rattle.std.specs.Prelude.{ℕ, ◌≡◌, Some, slice_get}
+-- Why a turn is not finished: want of memory, a sink that failed, or a pattern that is too big to match with.
+use Rattle.std.specs.Prelude.{ℕ, ◌≡◌, ⊤, List, Some, slice_get}
 use Rattle.fleet_config.specs.Fleet.{FleetConfig}
-use Rattle.node_core.specs.Node.{RunsBigPattern}
+use Rattle.node_core.specs.Node.{NodeState, RunsBigPattern}
 use Rattle.node_core.specs.Publications.{order, IsTargetTooBig}
 use Rattle.fleet_turns.specs.declared.turn.Turn.{Turn}
 use Rattle.fleet_turns.specs.declared.turn.Turn.TheVariants.{Publish, Send, Deliver, Report}
 use Rattle.fleet_turns.specs.declared.turn.Turn.TheVariants as t
+use Rattle.tree_world.specs.declared.world.Halt.{Halt}
+use Rattle.tree_world.specs.declared.world.Halt.TheVariants as halt
+use Rattle.tree_world.specs.declared.world.StepFault.{StepFault}
+use Rattle.tree_world.specs.declared.world.StepFault.TheVariants as step
 use Rattle.tree_world.specs.Packets.{Packet}
 use Rattle.tree_world.specs.Network.{Network, node_at}
 
@@ -17,3 +21,30 @@ MeetsBigPattern f (Deliver i) w leaf =
     (p : Packet) × (slice_get w.packets i ≡ Some p) × RunsBigPattern p.message (node_at w.nodes p.to) leaf
 MeetsBigPattern f (Report jid) w leaf = ⊥
 MeetsBigPattern f (t.Packet i) w leaf = ⊥
+
+-- a turn stops before its text is written: a pattern is too big, or memory ran out. No public contract cites it.
+abbrev pub IsHalt : FleetConfig → Turn → Network → Halt → Type 0
+IsHalt f turn w halt.NoMemory = ⊤
+IsHalt f turn w (halt.TooBig leaf) = MeetsBigPattern f turn w leaf
+
+-- The receiver of a packet runs a job with a pattern that is too big, or memory ran out. No public contract cites it.
+abbrev pub IsReceiptHalt : List NodeState → Packet → Halt → Type 0
+IsReceiptHalt nodes p halt.NoMemory = ⊤
+IsReceiptHalt nodes p (halt.TooBig leaf) = RunsBigPattern p.message (node_at nodes p.to) leaf
+
+-- a turn is not finished: a pattern is too big, or memory or the sink failed, of which nothing more is said here
+abbrev pub IsStepFault : FleetConfig → Turn → Network → StepFault → Type 0
+IsStepFault f turn w step.NoMemory = ⊤
+IsStepFault f turn w (step.TooBig leaf) = MeetsBigPattern f turn w leaf
+IsStepFault f turn w step.WriteFault = ⊤
+
+-- The fault of a turn that stopped. No public contract cites it.
+abbrev pub step_fault : Halt → StepFault
+step_fault halt.NoMemory = step.NoMemory
+step_fault (halt.TooBig leaf) = step.TooBig leaf
+
+-- no pattern is too big
+abbrev pub NeverTooBig : StepFault → Type 0
+NeverTooBig step.NoMemory = ⊤
+NeverTooBig (step.TooBig leaf) = ⊥
+NeverTooBig step.WriteFault = ⊤

@@ -1,12 +1,14 @@
 //! The network of a fleet, and its turns.
-ghost use Rattle.std.specs.Prelude.{◌≡◌, ℕ, ◌<◌, ◌++◌, ◌^◌, List, All, slice_set, length, map, take, true, IfOk, IfErr, IfSome, OnOk, OnErr, IsErrOf, Ok, Err};
+ghost use Rattle.std.specs.Prelude.{◌≡◌, ◌<◌, ◌++◌, ◌^◌, List, All, slice_set, length, map, take, true, IfOk, IfErr, IfSome, OnOk, OnErr, IsErrOf, Ok, Err};
 ghost use Rattle.salt_value.specs.declared.value.Value.TheVariants as v;
 ghost use Rattle.salt_value.specs.WellFormed.{ValueFits};
-ghost use Rattle.node_core.specs.Node.{first_node, pending, is_neighbour, IsCounted, RunsBigPattern};
+ghost use Rattle.node_core.specs.Node.{first_node, pending, is_neighbour, IsCounted};
 ghost use Rattle.salt_wire.specs.Limits.{Within};
 ghost use Rattle.tree_world.specs.Network.{node_at, reception, with_reply, with_reply_if_any};
 ghost use Rattle.tree_world.specs.Packets.{Packet};
 ghost use Rattle.tree_world.specs.Network as network;
+ghost use Rattle.tree_world.specs.Halts as halts;
+ghost use Rattle.tree_world.specs.Halts.{IsReceiptHalt, NeverTooBig};
 ghost use Rattle.salt_outside.specs.Causes.{CountsFaults};
 ghost use Rattle.salt_outside.specs.Streams.{contents_after, IsPart};
 
@@ -99,12 +101,13 @@ impl From<AllocError> for Halt {
     }
 }
 
-impl From<Halt> for StepFault {
-    fn from(halt: Halt) -> StepFault {
-        match halt {
-            Halt::NoMemory => StepFault::NoMemory,
-            Halt::TooBig { leaf } => StepFault::TooBig { leaf },
-        }
+// The fault of a turn that stopped.
+fn step_fault(halt: Halt) -> StepFault
+    ensures { result ≡ halts.step_fault halt }
+{
+    match halt {
+        Halt::NoMemory => StepFault::NoMemory,
+        Halt::TooBig { leaf } => StepFault::TooBig { leaf },
     }
 }
 
@@ -112,8 +115,7 @@ impl World {
     ghost use Rattle.tree_world.specs.Network.{System, system, after, node_at};
     ghost use Rattle.fleet_turns.specs.Turns.{IsTurn};
     ghost use Rattle.node_core.specs.Node.{is_neighbour};
-    ghost use Rattle.node_core.specs.Publications.{order, IsTargetTooBig};
-    ghost use Rattle.tree_world.specs.Halts.{MeetsBigPattern};
+    ghost use Rattle.tree_world.specs.Halts.{IsHalt, IsStepFault};
     ghost use Rattle.tree_world.specs.Text.{printed_text};
 
     /// The nodes of a fleet as they start, where it has one: each minion has booted once.
@@ -150,7 +152,21 @@ impl World {
         ensures text { OnOk result (K.held sink.new ≡ contents_after (K.held sink.old) (printed_text self.old.fleet turn.now self.old.network)) }
         ensures part { IsPart (K.held sink.old) (K.held sink.new) (printed_text self.old.fleet turn.now self.old.network) }
         ensures faults { CountsFaults (IsErrOf result StepFault.WriteFault) (K.faults sink.old) (K.faults sink.new) }
-        ensures too_big { (leaf : ℕ) → IsErrOf result (StepFault.TooBig leaf) → MeetsBigPattern self.old.fleet turn.now self.old.network leaf }
+        ensures fault { IfErr result (IsStepFault self.old.fleet turn.now self.old.network) }
+    {
+        match self.turn(turn) {
+            Ok(text) => tell_some(sink, &text),
+            Err(halt) => Err(step_fault(halt)),
+        }
+    }
+
+    // The network goes on by a turn, and answers the text that the turn prints.
+    fn turn(&mut self, turn: &Turn) -> Result<Vec<u8>, Halt>
+        requires { IsTurn self.old.fleet turn.now }
+        ensures state { OnOk result (self.new.network ≡ after self.old.fleet turn.now self.old.network) }
+        ensures fleet { self.new.fleet ≡ self.old.fleet }
+        ensures text { IfOk result (λ text. text.items ≡ printed_text self.old.fleet turn.now self.old.network) }
+        ensures halt { IfErr result (IsHalt self.old.fleet turn.now self.old.network) }
     {
         match turn {
             Turn::Publish {
@@ -159,20 +175,17 @@ impl World {
                 tgt,
                 fun,
                 args,
-            } => {
-                let text = self.publish(*moment, *kind, tgt, fun, args.as_slice())?;
-                tell(sink, &text)
+            } => self.publish(*moment, *kind, tgt, fun, args.as_slice()),
+            Turn::Send { from, to, count } => {
+                self.send(*from, *to, *count)?;
+                Ok(Vec::new(self.alloc))
             }
-            Turn::Send { from, to, count } => Ok(self.send(*from, *to, *count)?),
-            Turn::Deliver { packet } => Ok(self.deliver(*packet)?),
-            Turn::Report { jid } => {
-                let text = self.report(*jid)?;
-                tell(sink, &text)
+            Turn::Deliver { packet } => {
+                self.deliver(*packet)?;
+                Ok(Vec::new(self.alloc))
             }
-            Turn::Packet { packet } => {
-                let text = self.packet(*packet)?;
-                tell(sink, &text)
-            }
+            Turn::Report { jid } => Ok(self.report(*jid)?),
+            Turn::Packet { packet } => Ok(self.packet(*packet)?),
         }
     }
 
@@ -188,7 +201,7 @@ impl World {
         ensures state { OnOk result (self.new.network ≡ after self.old.fleet (Turn.Publish moment kind tgt.now fun.now args.now) self.old.network) }
         ensures fleet { self.new.fleet ≡ self.old.fleet }
         ensures text { IfOk result (λ text. text.items ≡ printed_text self.old.fleet (Turn.Publish moment kind tgt.now fun.now args.now) self.old.network) }
-        ensures too_big { (leaf : ℕ) → IsErrOf result (Halt.TooBig leaf) → IsTargetTooBig self.old.fleet.groups (order kind tgt.now fun.now args.now) leaf }
+        ensures halt { IfErr result (IsHalt self.old.fleet (Turn.Publish moment kind tgt.now fun.now args.now) self.old.network) }
     {
         let Some(top) = self.nodes.first_mut() else {
             unreachable!();
@@ -241,7 +254,7 @@ impl World {
     #[tactic(auto, using(crate::proofs::Delivers::delivered_past, crate::proofs::Delivers::delivered_to))]
     fn deliver(&mut self, i: u64) -> Result<(), Halt>
         requires { i < 2 ^ 64 }
-        ensures too_big { (leaf : ℕ) → IsErrOf result (Halt.TooBig leaf) → MeetsBigPattern self.old.fleet (Turn.Deliver i) self.old.network leaf }
+        ensures halt { IfErr result (IsHalt self.old.fleet (Turn.Deliver i) self.old.network) }
         ensures state { OnOk result (self.new.network ≡ after self.old.fleet (Turn.Deliver i) self.old.network) }
         ensures fleet { self.new.fleet ≡ self.old.fleet }
     {
@@ -272,7 +285,7 @@ fn take_packet(
     ensures count { length nodes.new.items ≡ length nodes.old.items }
     ensures fits { IfOk result (λ reply. IfSome reply Within) }
     ensures counted { IfOk result (λ reply. IfSome reply IsCounted) }
-    ensures too_big { (leaf : ℕ) → IsErrOf result (Halt.TooBig leaf) → RunsBigPattern packet.now.message (node_at nodes.old.items packet.now.to) leaf }
+    ensures halt { IfErr result (IsReceiptHalt nodes.old.items packet.now) }
 {
     let message = packet.message(alloc)?;
     let node = &mut nodes[packet.to().index()];
@@ -351,12 +364,26 @@ pub fn tell<K: Sink>(sink: &mut K, text: &[u8]) -> Result<(), StepFault>
     ensures ok { OnOk result (K.held sink.new ≡ contents_after (K.held sink.old) text.now) }
     ensures part { IsPart (K.held sink.old) (K.held sink.new) text.now }
     ensures faults { CountsFaults (IsErrOf result StepFault.WriteFault) (K.faults sink.old) (K.faults sink.new) }
+    ensures small { IfErr result NeverTooBig }
 {
     match sink.write(text) {
         Ok(()) => Ok(()),
         Err(Outside::NoMemory) => Err(StepFault::NoMemory),
         Err(Outside::Failed) => Err(StepFault::WriteFault),
     }
+}
+
+// Writes a text, if it has a byte.
+fn tell_some<K: Sink>(sink: &mut K, text: &[u8]) -> Result<(), StepFault>
+    ensures ok { OnOk result (K.held sink.new ≡ contents_after (K.held sink.old) text.now) }
+    ensures part { IsPart (K.held sink.old) (K.held sink.new) text.now }
+    ensures faults { CountsFaults (IsErrOf result StepFault.WriteFault) (K.faults sink.old) (K.faults sink.new) }
+    ensures small { IfErr result NeverTooBig }
+{
+    if text.is_empty() {
+        return Ok(());
+    }
+    tell(sink, text)
 }
 
 // Each node as it starts.
