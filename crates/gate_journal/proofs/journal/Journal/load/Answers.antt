@@ -11,14 +11,14 @@ pub returns-in-Ok-read_journal-clause-accepts : goal.returns-in-Ok-read_journal-
 returns-in-Ok-read_journal-clause-accepts g c = λ told limit payloads is.
     let read = c.in-Ok-read_journal in
     let bytes = (part_of (g.D.Disk.state c.args.disk.now) c.args.part).bytes in
-    let found = subst (λ (l : List ℕ). IsJournal read.limit read.payloads.items l) (c.deref.ensures.value ∙ c.in-Ok.ensures.ok told) read.ensures.ok.0 in
+    let found = subst (λ (l : List ℕ). IsJournal read.limit read.payloads.items l) (c.deref.ensures.value ∙ c.in-Ok.ensures.ok told) read.ensures.ok.holds in
     (tt, one_journal read.limit limit read.payloads.items payloads bytes found is)
 
 pub returns-in-Ok-read_journal-clause-refuses_damaged : goal.returns-in-Ok-read_journal-clause-refuses_damaged
 returns-in-Ok-read_journal-clause-refuses_damaged g c = λ told at damaged.
     let read = c.in-Ok-read_journal in
     let bytes = (part_of (g.D.Disk.state c.args.disk.now) c.args.part).bytes in
-    let found = subst (λ (l : List ℕ). IsJournal read.limit read.payloads.items l) (c.deref.ensures.value ∙ c.in-Ok.ensures.ok told) read.ensures.ok.0 in
+    let found = subst (λ (l : List ℕ). IsJournal read.limit read.payloads.items l) (c.deref.ensures.value ∙ c.in-Ok.ensures.ok told) read.ensures.ok.holds in
     journal_not_damaged read.limit at read.payloads.items bytes found damaged
 
 pub returns-in-Err-NotAJournal-clause-not_a_journal : goal.returns-in-Err-NotAJournal-clause-not_a_journal

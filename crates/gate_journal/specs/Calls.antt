@@ -1,0 +1,33 @@
+-- What a call on a journal does to the disk under it, and which of the disk's own calls pass.
+use Rattle.std.specs.Prelude.{◌≡◌, ℕ, Result, IsErrOf, OnOk}
+use Rattle.salt_disk.specs.declared.disk.Disk.{Ghosts}
+use Rattle.salt_disk.specs.declared.disk.Part.{Part}
+use Rattle.salt_disk.specs.declared.disk.Fuse.{Fuse}
+use Rattle.salt_disk.specs.Disk.{DiskState, part_of, IsSettled}
+use Rattle.salt_disk.specs.Crash.{LeavesOnly, MayLeave}
+use Rattle.salt_disk.specs.Fuse.{Passes, fuse_after}
+
+-- A read of the part gives what it gave before.
+abbrev pub KeepsBytes : Part → DiskState → DiskState → Type 0
+KeepsBytes part old new = (part_of new part).bytes ≡ (part_of old part).bytes
+
+-- The part is at rest, but where the answer is this error.
+abbrev pub SettlesUnless : {T E : Type 0} → E → Result T E → DiskState → Part → Type 0
+SettlesUnless failure result disk part = (IsErrOf result failure → ⊥) → IsSettled (part_of disk part)
+
+-- A crash at any moment of the call leaves what a crash before it could leave.
+abbrev pub LeavesAsBefore : {D : Type 0} → Ghosts D → D → D → Type 0
+LeavesAsBefore disk old new = LeavesOnly disk.past disk.state old new (MayLeave (disk.state old))
+
+-- So many changing calls passed, but where the answer is this error.
+abbrev pub PassesUnless : {D T E : Type 0} → ℕ → (D → Fuse) → E → D → D → Result T E → Type 0
+PassesUnless calls fuse failure old new result =
+    (IsErrOf result failure → ⊥) → Passes calls (fuse old) × (fuse new ≡ fuse_after calls (fuse old))
+
+-- Where the answer is this error, not so many changing calls could pass.
+abbrev pub FailsWithin : {T E : Type 0} → ℕ → Fuse → E → Result T E → Type 0
+FailsWithin calls before failure result = IsErrOf result failure → Passes calls before → ⊥
+
+-- At Ok so many changing calls passed.
+abbrev pub PassesAtOk : {T E : Type 0} → ℕ → Fuse → Fuse → Result T E → Type 0
+PassesAtOk calls before now result = OnOk result (Passes calls before × (now ≡ fuse_after calls before))
