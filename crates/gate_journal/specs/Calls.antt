@@ -4,12 +4,16 @@ use Rattle.salt_disk.specs.declared.disk.Disk.{Ghosts}
 use Rattle.salt_disk.specs.declared.disk.Part.{Part}
 use Rattle.salt_disk.specs.declared.disk.Fuse.{Fuse}
 use Rattle.salt_disk.specs.Disk.{DiskState, part_of, IsSettled}
-use Rattle.salt_disk.specs.Crash.{LeavesOnly, MayLeave}
+use Rattle.salt_disk.specs.Crash.{LeavesOnly, MayLeave, OthersStay}
 use Rattle.salt_disk.specs.Fuse.{Passes, fuse_after}
 
 -- A read of the part gives what it gave before.
-abbrev pub KeepsBytes : Part → DiskState → DiskState → Type 0
-KeepsBytes part old new = (part_of new part).bytes ≡ (part_of old part).bytes
+abbrev pub KeepsBytes : {D : Type 0} → Ghosts D → D → D → Part → Type 0
+KeepsBytes disk old new part = (part_of (disk.state new) part).bytes ≡ (part_of (disk.state old) part).bytes
+
+-- Each part but this one stays as it was.
+abbrev pub KeepsOthers : {D : Type 0} → Ghosts D → D → D → Part → Type 0
+KeepsOthers disk old new part = OthersStay part (disk.state old) (disk.state new)
 
 -- The part is at rest, but where the answer is this error.
 abbrev pub SettlesUnless : {T E : Type 0} → E → Result T E → DiskState → Part → Type 0

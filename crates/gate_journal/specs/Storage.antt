@@ -1,5 +1,6 @@
 -- How a record is stored behind the closed gate, and how a part is read. No public contract cites any of it.
-use Rattle.std.specs.Prelude.{◌≡◌, ◌≤◌, ◌+◌, ℕ, List, [], ◌∷◌, ◌++◌, length, drop, Result, IfOk, IsErrOf}
+use Rattle.std.specs.Prelude.{◌≡◌, ◌≤◌, ◌+◌, ℕ, List, [], ◌∷◌, ◌++◌, length, drop, Option, MatchOption, Result, IfOk, IsErrOf}
+use Rattle.std.specs.Borrow.{Bor}
 use Rattle.std.specs.declared.vec.Vec.{Vec}
 use Rattle.byteorder.specs.Endian.{big_bytes}
 use Rattle.salt_disk.specs.declared.disk.Disk.{Ghosts}
@@ -11,6 +12,7 @@ use Rattle.salt_disk.specs.Crash.{LeavesOnly}
 use Rattle.gate_journal.specs.Layout.{least_limit, greatest_limit, first_gate, fresh_length, record_overhead}
 use Rattle.gate_journal.specs.Journal.{IsJournal, Rests, IsNext, HoldsOldOrNew, StoppedAppend, header, journal_length}
 use Rattle.gate_journal.specs.Payloads.{PlacedPayloads}
+use Rattle.gate_journal.specs.Read.{IsBroken}
 
 -- A journal of this length stands on the part, at rest. No public contract cites it.
 abbrev pub HasJournal : ℕ → PartState → Type 0
@@ -55,6 +57,10 @@ pub record HasRecord (room : ℕ) (bytes payload behind : List ℕ) : Type 0 whe
   pub bytes_are : bytes ≡ (big_bytes 4 (length payload) ++ payload) ++ behind
   pub gate : 1 ≤ length behind
   pub within : record_overhead + 1 + length payload ≤ room
+
+-- The answer is such a payload and what is behind it, or what stands behind the gate is broken. No public contract cites it.
+abbrev pub ReadsRecord : ℕ → List ℕ → Option (Bor (List ℕ) × Bor (List ℕ)) → Type 0
+ReadsRecord room bytes result = MatchOption result (IsBroken room bytes) (λ r. HasRecord room bytes r.0.now r.1.now)
 
 -- The bytes are a journal of this limit, of these payloads and of so many bytes. No public contract cites it.
 pub record ReadsAs (bytes : List ℕ) (limit : ℕ) (payloads : PlacedPayloads) (len : ℕ) : Type 0 where

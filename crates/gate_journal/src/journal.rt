@@ -1,10 +1,9 @@
 //! A journal: a header, and records behind gates. A record counts where its gate is open.
 ghost use Rattle.std.specs.Prelude.{◌≡◌, ◌≤◌, false, length, IfOk, OnOk};
 ghost use Rattle.salt_disk.specs.Disk.{part_of, IsSettled};
-ghost use Rattle.salt_disk.specs.Crash.{OthersStay};
 ghost use Rattle.gate_journal.specs.Layout.{least_limit, greatest_limit, first_gate};
 ghost use Rattle.gate_journal.specs.Journal.{HoldsPayloads};
-ghost use Rattle.gate_journal.specs.Calls.{KeepsBytes, SettlesUnless, LeavesAsBefore, PassesUnless, FailsWithin, PassesAtOk};
+ghost use Rattle.gate_journal.specs.Calls.{KeepsBytes, KeepsOthers, SettlesUnless, LeavesAsBefore, PassesUnless, FailsWithin, PassesAtOk};
 ghost use Rattle.gate_journal.specs.Load.{TellsNoJournal, TellsDamage, AcceptsJournal, RefusesNoJournal, RefusesDamaged};
 ghost use Rattle.gate_journal.specs.Fresh.{IsFresh, LeavesNothingIfShort, LeavesAsBeforeIfLong, TellsNotEmpty, RefusesLong, StaysIfLong};
 ghost use Rattle.gate_journal.specs.Append.{after_append, StandsOn, HoldsAfter, LeavesOldOrNew, LeavesByAnswer, LeavesAsBeforeIfDown, BurnsByAppend, DownExactly, FullExactly};
@@ -51,9 +50,9 @@ impl Journal {
         ensures places { IfOk result (λ r. r.1.first ≡ first_gate) }
 
         // The bytes stay. After every answer but `Disk` nothing is pending on the part.
-        ensures bytes { D.is_told → KeepsBytes part (D.state disk.old) (D.state disk.new) }
+        ensures bytes { D.is_told → KeepsBytes D.Disk disk.old disk.new part }
         ensures settled { D.is_told → SettlesUnless LoadFault.Disk result (D.state disk.new) part }
-        ensures others { D.is_told → OthersStay part (D.state disk.old) (D.state disk.new) }
+        ensures others { D.is_told → KeepsOthers D.Disk disk.old disk.new part }
         ensures any_moment { D.is_told → LeavesAsBefore D.Disk disk.old disk.new }
         // One changing call passes, but where the answer is `Disk`.
         ensures passed { D.is_told → PassesUnless 1 D.fuse LoadFault.Disk disk.old disk.new result }
@@ -98,9 +97,10 @@ impl Journal {
         requires greatest { limit ≤ greatest_limit }
         requires settled { D.is_told → IsSettled (part_of (D.state disk.old) part) }
         ensures ok { D.is_told → OnOk result (IsFresh limit (part_of (D.state disk.new) part)) }
-        ensures others { D.is_told → OthersStay part (D.state disk.old) (D.state disk.new) }
+        ensures others { D.is_told → KeepsOthers D.Disk disk.old disk.new part }
 
-        // A crash at any moment leaves no journal that loads, or an empty one, or where the part is not empty what it could leave before.
+        // A crash at any moment leaves no journal that loads, or an empty one. Where the part is longer than such a one,
+        // it leaves what it could leave before.
         ensures any_moment { D.is_told → LeavesNothingIfShort D.Disk disk.old disk.new part }
         ensures full_moment { D.is_told → LeavesAsBeforeIfLong D.Disk disk.old disk.new part }
 
@@ -141,9 +141,10 @@ impl Journal {
     ) -> Result<(), AppendFault>
         requires { D.is_told → self.old.is_down ≡ false → StandsOn self.old (D.state disk.old) }
 
-        // The new payload stands at the end after Ok, and the old ones stand after every other answer but `Disk`.
+        // Over a disk that tells what it holds: the new payload stands at the end after Ok, and the old ones stand after
+        // every other answer but `Disk`.
         ensures held { HoldsAfter D.Disk disk.old disk.new self.old self.new payload.now result }
-        ensures others { D.is_told → OthersStay self.old.part (D.state disk.old) (D.state disk.new) }
+        ensures others { D.is_told → KeepsOthers D.Disk disk.old disk.new self.old.part }
 
         // A crash at any moment of the call leaves the payloads from before it, with the new one or without.
         ensures any_moment { LeavesOldOrNew D.Disk disk.old disk.new self.old payload.now }

@@ -2,12 +2,11 @@
 ghost use Rattle.std.specs.Prelude.{◌≡◌, ℕ, MatchOption, IfOk, IsErrOf};
 ghost use Rattle.gate_journal.specs.declared.read.ReadFault.TheVariants.{NoMemory};
 ghost use Rattle.salt_disk.specs.Disk.{Stays};
-ghost use Rattle.salt_disk.specs.Crash.{OthersStay};
 ghost use Rattle.salt_outside.specs.Causes.{CountsFailures};
 ghost use Rattle.salt_disk.specs.Fuse.{Lasts};
-ghost use Rattle.gate_journal.specs.Calls.{KeepsBytes, SettlesUnless, LeavesAsBefore, PassesUnless, FailsWithin};
-ghost use Rattle.gate_journal.specs.Storage.{ReadsWhole, HasHeader, HasRecord, ReadsAs};
-ghost use Rattle.gate_journal.specs.Read.{IsNoJournal, IsBroken, IsDamagedAt};
+ghost use Rattle.gate_journal.specs.Calls.{KeepsBytes, KeepsOthers, SettlesUnless, LeavesAsBefore, PassesUnless, FailsWithin};
+ghost use Rattle.gate_journal.specs.Storage.{ReadsWhole, HasHeader, ReadsRecord, ReadsAs};
+ghost use Rattle.gate_journal.specs.Read.{IsNoJournal, IsDamagedAt};
 
 use crate::{
     FIRST_GATE, GREATEST_LIMIT, HEADER_BYTES, LEAST_LIMIT, NAME, OPEN_GATE, Payload, Payloads,
@@ -56,7 +55,7 @@ fn read_header(bytes: &[u8]) -> Option<u64>
 
 // The payload behind an open gate, and what stands from the next gate on.
 fn read_record(rest: &[u8], room: u64) -> Option<(&[u8], &[u8])>
-    ensures { MatchOption result (IsBroken room rest.now) (λ r. HasRecord room rest.now r.0.now r.1.now) }
+    ensures { ReadsRecord room rest.now result }
 {
     let (length, rest) = rest.split_first_chunk::<4>()?;
     let length = u32::from_be_bytes(*length) as usize;
@@ -93,8 +92,8 @@ pub fn read_journal(alloc: Global, bytes: &[u8]) -> Result<(u64, Payloads, u64),
 pub fn read_synced<D: Disk>(alloc: Global, disk: &mut D, part: Part) -> Result<Vec<u8>, DiskFault>
     ensures ok { D.is_told → ReadsWhole (D.state disk.old) part result }
     ensures synced { D.is_told → SettlesUnless DiskFault.Failed result (D.state disk.new) part }
-    ensures same { D.is_told → KeepsBytes part (D.state disk.old) (D.state disk.new) }
-    ensures others { D.is_told → OthersStay part (D.state disk.old) (D.state disk.new) }
+    ensures same { D.is_told → KeepsBytes D.Disk disk.old disk.new part }
+    ensures others { D.is_told → KeepsOthers D.Disk disk.old disk.new part }
     ensures any_moment { D.is_told → LeavesAsBefore D.Disk disk.old disk.new }
     ensures passed { D.is_told → PassesUnless 1 D.fuse DiskFault.Failed disk.old disk.new result }
     ensures not_passed { D.is_told → FailsWithin 1 (D.fuse disk.old) DiskFault.Failed result }

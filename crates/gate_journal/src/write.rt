@@ -1,12 +1,12 @@
 //! Writes a header, and a record.
 ghost use Rattle.std.specs.Prelude.{◌≡◌, ◌<◌, ◌≤◌, ◌^◌, ◌∷◌, ◌++◌, [], length, drop, IfOk, OnOk};
 ghost use Rattle.salt_disk.specs.Disk.{part_of, IsSettled};
-ghost use Rattle.salt_disk.specs.Crash.{OthersStay};
 ghost use Rattle.salt_outside.specs.Causes.{CountsFailures};
 ghost use Rattle.salt_disk.specs.Fuse.{Burns};
 ghost use Rattle.byteorder.specs.Endian.{big_bytes};
 ghost use Rattle.gate_journal.specs.Layout.{least_limit, greatest_limit, fresh_length, closed_gate};
 ghost use Rattle.gate_journal.specs.Journal.{header, record_of, tail_of};
+ghost use Rattle.gate_journal.specs.Calls.{KeepsOthers};
 ghost use Rattle.gate_journal.specs.Fresh.{IsFresh, LeavesNothing};
 ghost use Rattle.gate_journal.specs.Storage.{HasJournal, AddsNext, RestsAfterNoMemory, LeavesNext, StopsNext};
 
@@ -71,7 +71,7 @@ pub fn store<D: Disk>(disk: &mut D, part: Part, len: u64, body: &[u8]) -> Result
     ensures any_moment { D.is_told → LeavesNext D.Disk disk.old disk.new part len body.now }
     ensures stopped { D.is_told → StopsNext D.Disk disk.old disk.new part len body.now result }
     ensures fuse { D.is_told → Burns 4 (D.fuse disk.old) (D.fuse disk.new) result }
-    ensures others { D.is_told → OthersStay part (D.state disk.old) (D.state disk.new) }
+    ensures others { D.is_told → KeepsOthers D.Disk disk.old disk.new part }
     ensures faults { CountsFailures D.faults DiskFault.Failed disk.old disk.new result }
 {
     write_through(disk, part, len, body)?;
@@ -85,7 +85,7 @@ pub fn write_header<D: Disk>(disk: &mut D, part: Part, limit: u64) -> Result<(),
     requires settled { D.is_told → IsSettled (part_of (D.state disk.old) part) }
     requires short { D.is_told → length (part_of (D.state disk.old) part).bytes ≤ fresh_length }
     ensures ok { D.is_told → OnOk result (IsFresh limit (part_of (D.state disk.new) part)) }
-    ensures others { D.is_told → OthersStay part (D.state disk.old) (D.state disk.new) }
+    ensures others { D.is_told → KeepsOthers D.Disk disk.old disk.new part }
     ensures any_moment { D.is_told → LeavesNothing D.Disk disk.old disk.new part }
     ensures fuse { D.is_told → Burns 4 (D.fuse disk.old) (D.fuse disk.new) result }
     ensures faults { CountsFailures D.faults DiskFault.Failed disk.old disk.new result }
