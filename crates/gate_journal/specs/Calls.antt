@@ -23,15 +23,12 @@ SettlesUnless failure result disk part = (IsErrOf result failure → ⊥) → Is
 abbrev pub LeavesAsBefore : {D : Type 0} → Ghosts D → D → D → Type 0
 LeavesAsBefore disk old new = LeavesOnly disk.past disk.state old new (MayLeave (disk.state old))
 
--- So many changing calls passed, but where the answer is this error.
-abbrev pub PassesUnless : {D T E : Type 0} → ℕ → (D → Fuse) → E → D → D → Result T E → Type 0
-PassesUnless calls fuse failure old new result =
-    (IsErrOf result failure → ⊥) → Passes calls (fuse old) × (fuse new ≡ fuse_after calls (fuse old))
+-- So many changing calls passed, but where the answer is this error, and it comes only where not so many could pass.
+pub record BurnsUnless {D T E : Type 0} (calls : ℕ) (fuse : D → Fuse) (failure : E) (old new : D) (result : Result T E) : Type 0 where
+  pub passed : (IsErrOf result failure → ⊥) → Passes calls (fuse old) × (fuse new ≡ fuse_after calls (fuse old))
+  pub not_passed : IsErrOf result failure → Passes calls (fuse old) → ⊥
 
--- Where the answer is this error, not so many changing calls could pass.
-abbrev pub FailsWithin : {T E : Type 0} → ℕ → Fuse → E → Result T E → Type 0
-FailsWithin calls before failure result = IsErrOf result failure → Passes calls before → ⊥
-
--- At Ok so many changing calls passed.
-abbrev pub PassesAtOk : {T E : Type 0} → ℕ → Fuse → Fuse → Result T E → Type 0
-PassesAtOk calls before now result = OnOk result (Passes calls before × (now ≡ fuse_after calls before))
+-- At Ok so many changing calls passed, and the answer is this error only where not so many could pass.
+pub record BurnsAtOk {D T E : Type 0} (calls : ℕ) (fuse : D → Fuse) (failure : E) (old new : D) (result : Result T E) : Type 0 where
+  pub passed : OnOk result (Passes calls (fuse old) × (fuse new ≡ fuse_after calls (fuse old)))
+  pub not_passed : IsErrOf result failure → Passes calls (fuse old) → ⊥

@@ -1,5 +1,5 @@
 -- What a load answers for the bytes of a part, and when.
-use Rattle.std.specs.Prelude.{◌≡◌, ℕ, List, Result, IsErrOf, IfOk}
+use Rattle.std.specs.Prelude.{◌≡◌, ℕ, false, List, Result, IsErrOf, IfOk}
 use Rattle.salt_disk.specs.declared.disk.Disk.{Ghosts}
 use Rattle.salt_disk.specs.declared.disk.Part.{Part}
 use Rattle.salt_disk.specs.Disk.{DiskState, part_of}
@@ -8,6 +8,11 @@ use Rattle.gate_journal.specs.declared.fault.LoadFault.TheVariants.{NotAJournal,
 use Rattle.gate_journal.specs.Journal.{JournalState, IsJournal}
 use Rattle.gate_journal.specs.Payloads.{PlacedPayloads}
 use Rattle.gate_journal.specs.Read.{IsNoJournal, IsDamagedAt, IsAccepted, IsRefused}
+
+-- The journal stands on this part, and is up.
+pub record IsUpOn (part : Part) (journal : JournalState) : Type 0 where
+  pub stands : journal.part ≡ part
+  pub up : journal.is_down ≡ false
 
 -- Where it answers `NotAJournal`, the part has none.
 abbrev pub TellsNoJournal : {T : Type 0} → DiskState → Part → Result T LoadFault → Type 0

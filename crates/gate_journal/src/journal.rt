@@ -3,8 +3,8 @@ ghost use Rattle.std.specs.Prelude.{◌≡◌, ◌≤◌, false, length, IfOk, O
 ghost use Rattle.salt_disk.specs.Disk.{part_of, IsSettled};
 ghost use Rattle.gate_journal.specs.Layout.{least_limit, greatest_limit, first_gate};
 ghost use Rattle.gate_journal.specs.Journal.{HoldsPayloads};
-ghost use Rattle.gate_journal.specs.Calls.{KeepsBytes, KeepsOthers, SettlesUnless, LeavesAsBefore, PassesUnless, FailsWithin, PassesAtOk};
-ghost use Rattle.gate_journal.specs.Load.{TellsNoJournal, TellsDamage, AcceptsJournal, RefusesNoJournal, RefusesDamaged};
+ghost use Rattle.gate_journal.specs.Calls.{KeepsBytes, KeepsOthers, SettlesUnless, LeavesAsBefore, BurnsUnless, BurnsAtOk};
+ghost use Rattle.gate_journal.specs.Load.{IsUpOn, TellsNoJournal, TellsDamage, AcceptsJournal, RefusesNoJournal, RefusesDamaged};
 ghost use Rattle.gate_journal.specs.Fresh.{IsFresh, LeavesNothingIfShort, LeavesAsBeforeIfLong, TellsNotEmpty, RefusesLong, StaysIfLong};
 ghost use Rattle.gate_journal.specs.Append.{after_append, StandsOn, HoldsAfter, LeavesOldOrNew, LeavesByAnswer, LeavesAsBeforeIfDown, BurnsByAppend, DownExactly, FullExactly};
 ghost use Rattle.salt_outside.specs.Causes.{CountsFailures};
@@ -46,7 +46,7 @@ impl Journal {
         part: Part,
     ) -> Result<(Journal, Payloads), LoadFault>
         ensures ok { D.is_told → IfOk result (λ r. HoldsPayloads r.0 r.1.items (D.state disk.new)) }
-        ensures journal { IfOk result (λ r. (r.0.part ≡ part) × (r.0.is_down ≡ false)) }
+        ensures journal { IfOk result (λ r. IsUpOn part r.0) }
         ensures places { IfOk result (λ r. r.1.first ≡ first_gate) }
 
         // The bytes stay. After every answer but `Disk` nothing is pending on the part.
@@ -55,8 +55,7 @@ impl Journal {
         ensures others { D.is_told → KeepsOthers D.Disk disk.old disk.new part }
         ensures any_moment { D.is_told → LeavesAsBefore D.Disk disk.old disk.new }
         // One changing call passes, but where the answer is `Disk`.
-        ensures passed { D.is_told → PassesUnless 1 D.fuse LoadFault.Disk disk.old disk.new result }
-        ensures not_passed { D.is_told → FailsWithin 1 (D.fuse disk.old) LoadFault.Disk result }
+        ensures fuse { D.is_told → BurnsUnless 1 D.fuse LoadFault.Disk disk.old disk.new result }
 
         // The causes.
         ensures not_a_journal { D.is_told → TellsNoJournal (D.state disk.old) part result }
@@ -102,16 +101,15 @@ impl Journal {
         // A crash at any moment leaves no journal that loads, or an empty one. Where the part is longer than such a one,
         // it leaves what it could leave before.
         ensures any_moment { D.is_told → LeavesNothingIfShort D.Disk disk.old disk.new part }
-        ensures full_moment { D.is_told → LeavesAsBeforeIfLong D.Disk disk.old disk.new part }
+        ensures long_moment { D.is_told → LeavesAsBeforeIfLong D.Disk disk.old disk.new part }
 
         // It makes four changing calls.
-        ensures passed { D.is_told → PassesAtOk 4 (D.fuse disk.old) (D.fuse disk.new) result }
-        ensures not_passed { D.is_told → FailsWithin 4 (D.fuse disk.old) CreateFault.Disk result }
+        ensures fuse { D.is_told → BurnsAtOk 4 D.fuse CreateFault.Disk disk.old disk.new result }
 
         // The causes.
         ensures not_empty { TellsNotEmpty D.Disk disk.old disk.new part result }
-        ensures full { D.is_told → RefusesLong (D.state disk.old) part result }
-        ensures untouched { D.is_told → StaysIfLong D.Disk disk.old disk.new part }
+        ensures complete { D.is_told → RefusesLong (D.state disk.old) part result }
+        ensures same { D.is_told → StaysIfLong D.Disk disk.old disk.new part }
         ensures faults { CountsFailures D.faults CreateFault.Disk disk.old disk.new result }
     {
         let len = match disk.len(part) {

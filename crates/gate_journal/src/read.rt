@@ -4,7 +4,7 @@ ghost use Rattle.gate_journal.specs.declared.read.ReadFault.TheVariants.{NoMemor
 ghost use Rattle.salt_disk.specs.Disk.{Stays};
 ghost use Rattle.salt_outside.specs.Causes.{CountsFailures};
 ghost use Rattle.salt_disk.specs.Fuse.{Lasts};
-ghost use Rattle.gate_journal.specs.Calls.{KeepsBytes, KeepsOthers, SettlesUnless, LeavesAsBefore, PassesUnless, FailsWithin};
+ghost use Rattle.gate_journal.specs.Calls.{KeepsBytes, KeepsOthers, SettlesUnless, LeavesAsBefore, BurnsUnless};
 ghost use Rattle.gate_journal.specs.Storage.{ReadsWhole, HasHeader, ReadsRecord, ReadsAs};
 ghost use Rattle.gate_journal.specs.Read.{IsNoJournal, IsDamagedAt};
 
@@ -91,12 +91,11 @@ pub fn read_journal(alloc: Global, bytes: &[u8]) -> Result<(u64, Payloads, u64),
 // Syncs a part, and reads it.
 pub fn read_synced<D: Disk>(alloc: Global, disk: &mut D, part: Part) -> Result<Vec<u8>, DiskFault>
     ensures ok { D.is_told → ReadsWhole (D.state disk.old) part result }
-    ensures synced { D.is_told → SettlesUnless DiskFault.Failed result (D.state disk.new) part }
+    ensures settled { D.is_told → SettlesUnless DiskFault.Failed result (D.state disk.new) part }
     ensures same { D.is_told → KeepsBytes D.Disk disk.old disk.new part }
     ensures others { D.is_told → KeepsOthers D.Disk disk.old disk.new part }
     ensures any_moment { D.is_told → LeavesAsBefore D.Disk disk.old disk.new }
-    ensures passed { D.is_told → PassesUnless 1 D.fuse DiskFault.Failed disk.old disk.new result }
-    ensures not_passed { D.is_told → FailsWithin 1 (D.fuse disk.old) DiskFault.Failed result }
+    ensures fuse { D.is_told → BurnsUnless 1 D.fuse DiskFault.Failed disk.old disk.new result }
     ensures faults { CountsFailures D.faults DiskFault.Failed disk.old disk.new result }
 {
     disk.sync(part)?;

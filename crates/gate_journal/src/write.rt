@@ -69,7 +69,7 @@ pub fn store<D: Disk>(disk: &mut D, part: Part, len: u64, body: &[u8]) -> Result
     ensures ok { D.is_told → OnOk result (AddsNext D.Disk disk.old disk.new part len body.now) }
     ensures memory { D.is_told → RestsAfterNoMemory D.Disk disk.old disk.new part len result }
     ensures any_moment { D.is_told → LeavesNext D.Disk disk.old disk.new part len body.now }
-    ensures stopped { D.is_told → StopsNext D.Disk disk.old disk.new part len body.now result }
+    ensures failed { D.is_told → StopsNext D.Disk disk.old disk.new part len body.now result }
     ensures fuse { D.is_told → Burns 4 (D.fuse disk.old) (D.fuse disk.new) result }
     ensures others { D.is_told → KeepsOthers D.Disk disk.old disk.new part }
     ensures faults { CountsFailures D.faults DiskFault.Failed disk.old disk.new result }

@@ -102,7 +102,7 @@ pub trait Disk {
         ensures crash { is_told → WritesAt past state self.old self.new part at bytes.now result }
         ensures time { is_told → TakesTime past state self.old self.new }
         ensures fuse { is_told → Burns 1 (fuse self.old) (fuse self.new) result }
-        ensures fuse_memory { is_told → IsErrOf result NoMemory → fuse self.new ≡ fuse self.old }
+        ensures memory { is_told → IsErrOf result NoMemory → fuse self.new ≡ fuse self.old }
         ensures faults { CountsFailures faults DiskFault.Failed self.old self.new result };
 
     /// Makes the part empty. After `Failed` a crash may leave it empty or as it was.

@@ -25,7 +25,7 @@ pub fn write_through<D: Disk>(
     ensures others { D.is_told → OthersStay part (D.state disk.old) (D.state disk.new) }
     ensures crash { D.is_told → LeavesWrite D.past D.state disk.old disk.new part at bytes.now }
     ensures fuse { D.is_told → Burns 2 (D.fuse disk.old) (D.fuse disk.new) result }
-    ensures cut_off { D.is_told → IsErrOf result Failed → IsUnsure (D.state disk.new) part at }
+    ensures failed { D.is_told → IsErrOf result Failed → IsUnsure (D.state disk.new) part at }
     ensures faults { CountsFailures D.faults DiskFault.Failed disk.old disk.new result }
 {
     disk.write_at(part, at, bytes)?;
