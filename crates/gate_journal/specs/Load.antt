@@ -23,15 +23,10 @@ abbrev pub TellsDamage : {D T : Type 0} → Ghosts D → D → Part → Result T
 TellsDamage disk old part result =
     (p : Part) (at : ℕ) → IsErrOf result (Damaged p at) → (p ≡ part) × (disk.is_told → IsDamagedAt at (part_of (disk.state old) part).bytes)
 
--- A journal on the part is never refused for its bytes, and what is found is its limit and its payloads.
-abbrev pub AcceptsJournal : DiskState → Part → Result (JournalState × PlacedPayloads) LoadFault → Type 0
-AcceptsJournal disk part result = (limit : ℕ) (payloads : List (List ℕ)) → IsJournal limit payloads (part_of disk part).bytes
-    → IsAccepted result × IfOk result (λ r. (r.0.limit ≡ limit) × (r.1.items ≡ payloads))
-
--- A part that has no journal is refused for that.
-abbrev pub RefusesNoJournal : {T : Type 0} → DiskState → Part → Result T LoadFault → Type 0
-RefusesNoJournal disk part result = IsNoJournal (part_of disk part).bytes → IsRefused NotAJournal result
-
--- A damaged journal is refused for that, with the place.
-abbrev pub RefusesDamaged : {T : Type 0} → DiskState → Part → Result T LoadFault → Type 0
-RefusesDamaged disk part result = (at : ℕ) → IsDamagedAt at (part_of disk part).bytes → IsRefused (Damaged part at) result
+-- What stands on the part is answered so, but for want of memory and a disk that fails: a journal is found with its limit and
+-- its payloads, a part that has none is refused for that, and so is a damaged one, with the place.
+pub record AnswersEach (disk : DiskState) (part : Part) (result : Result (JournalState × PlacedPayloads) LoadFault) : Type 0 where
+  pub accepts : (limit : ℕ) (payloads : List (List ℕ)) → IsJournal limit payloads (part_of disk part).bytes
+      → IsAccepted result × IfOk result (λ r. (r.0.limit ≡ limit) × (r.1.items ≡ payloads))
+  pub refuses : IsNoJournal (part_of disk part).bytes → IsRefused NotAJournal result
+  pub refuses_damaged : (at : ℕ) → IsDamagedAt at (part_of disk part).bytes → IsRefused (Damaged part at) result

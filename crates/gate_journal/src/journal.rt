@@ -4,7 +4,7 @@ ghost use Rattle.salt_disk.specs.Disk.{part_of, IsSettled};
 ghost use Rattle.gate_journal.specs.Layout.{least_limit, greatest_limit, first_gate};
 ghost use Rattle.gate_journal.specs.Journal.{HoldsPayloads};
 ghost use Rattle.gate_journal.specs.Calls.{KeepsBytes, KeepsOthers, SettlesUnless, LeavesAsBefore, BurnsUnless, BurnsAtOk};
-ghost use Rattle.gate_journal.specs.Load.{IsUpOn, TellsNoJournal, TellsDamage, AcceptsJournal, RefusesNoJournal, RefusesDamaged};
+ghost use Rattle.gate_journal.specs.Load.{IsUpOn, TellsNoJournal, TellsDamage, AnswersEach};
 ghost use Rattle.gate_journal.specs.Fresh.{IsFresh, LeavesNothingIfShort, LeavesAsBeforeIfLong, TellsNotEmpty, RefusesLong, StaysIfLong};
 ghost use Rattle.gate_journal.specs.Append.{after_append, StandsOn, HoldsAfter, LeavesOldOrNew, LeavesByAnswer, LeavesAsBeforeIfDown, BurnsByAppend, DownExactly, FullExactly};
 ghost use Rattle.salt_outside.specs.Causes.{CountsFailures};
@@ -61,9 +61,7 @@ impl Journal {
         ensures not_a_journal { D.is_told → TellsNoJournal (D.state disk.old) part result }
         ensures damaged { TellsDamage D.Disk disk.old part result }
         // Each of the two comes exactly there, and a journal is always found.
-        ensures accepts { D.is_told → AcceptsJournal (D.state disk.old) part result }
-        ensures refuses { D.is_told → RefusesNoJournal (D.state disk.old) part result }
-        ensures refuses_damaged { D.is_told → RefusesDamaged (D.state disk.old) part result }
+        ensures complete { D.is_told → AnswersEach (D.state disk.old) part result }
         ensures faults { CountsFailures D.faults LoadFault.Disk disk.old disk.new result }
     {
         let bytes = match read_synced(alloc, disk, part) {
