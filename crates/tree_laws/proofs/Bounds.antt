@@ -1,6 +1,6 @@
 -- The top holds at most as many jobs as its fleet says.
 use Rattle.std.proofs.Common.{◌≡◌, ℕ, zero, suc, ◌<◌, ◌≤◌, ◌∙◌, refl, subst, sym, inl, inr, Bool, true, false, nat_lt, ◌&&◌, ◌==◌, List, [], ◌∷◌, length, set, arith, append-nil}
-use Rattle.std.specs.Prelude.{Option, None, Some, slice_get}
+use Rattle.std.specs.Prelude.{Option, None, Some, is_none, unwrap_or, not, ◌||◌, slice_get}
 use Rattle.std.specs.List.{AllByRecursion}
 use Rattle.std.proofs.lemmas.List.{length_push, set_past}
 use Rattle.std.proofs.lemmas.Bool.{cases_lt}
@@ -13,9 +13,11 @@ use Rattle.salt_wire.specs.declared.message.Message.{Message}
 use Rattle.salt_wire.specs.declared.message.Message.TheVariants as msg
 use Rattle.salt_wire.specs.declared.deed.Deed.TheVariants.{Publish, Up}
 use Rattle.node_core.specs.declared.faults.Stray.{Stray}
-use Rattle.node_core.specs.declared.faults.Stray.TheVariants.{NotNeighbour, WrongWay}
+use Rattle.node_core.specs.declared.faults.Stray.TheVariants.{NotNeighbour, WrongWay, BadPattern}
 use Rattle.node_core.specs.Records.{jobs, log}
-use Rattle.node_core.specs.Node.{NodeState, MessageResult, with_record, with_next_record, after_pub, after_message, is_neighbour, may_take, stray_of, unless_stray, message_result, job_of}
+use Rattle.target_match.specs.Unread.{unread_leaf}
+use Rattle.node_core.specs.Publications.{order}
+use Rattle.node_core.specs.Node.{NodeState, MessageResult, with_record, with_next_record, after_pub, after_message, is_neighbour, may_take, runs_next, stray_of, unless_stray, message_result}
 use Rattle.fleet_turns.specs.declared.turn.Turn.{Turn}
 use Rattle.fleet_turns.specs.declared.turn.Turn.TheVariants as kind
 use Rattle.fleet_turns.specs.Turns.{IsTurn}
@@ -23,7 +25,8 @@ use Rattle.tree_world.specs.Network.{Network, node_at, start, top_jobs, after_re
 use Rattle.tree_laws.specs.Invariant.{Holds}
 use Rattle.tree_laws.proofs.Records.{jobs_push}
 use Rattle.tree_laws.proofs.Calls.{at_same, at_other}
-use Rattle.tree_laws.proofs.Turns.{published_either, by_receiver, after_step, first_jobs, start_holds}
+use Rattle.tree_laws.proofs.Published.{published_either}
+use Rattle.tree_laws.proofs.Turns.{by_receiver, after_step, first_jobs, start_holds}
 
 -- ---- no message changes the jobs of the top, which has no parent
 
@@ -35,12 +38,13 @@ by_stray : (o : Option Stray) (node : NodeState) (done : MessageResult) → jobs
 by_stray None node done e = e
 by_stray (Some cause) node done e = refl
 
-job_stray : (a b : Bool) (node : NodeState) (done : MessageResult) → jobs (unless_stray (first_cause ((a, NotNeighbour) ∷ (false && b, WrongWay) ∷ [])) node done).node.records ≡ jobs node.records
-job_stray true b node done = refl
-job_stray false b node done = refl
+job_stray : (a b c : Bool) (x : Stray) (node : NodeState) (done : MessageResult)
+    → jobs (unless_stray (first_cause ((a, NotNeighbour) ∷ (false && b, WrongWay) ∷ (c, x) ∷ [])) node done).node.records ≡ jobs node.records
+job_stray true b c x node done = refl
+job_stray false b c x node done = refl
 
 top_taken : (t : Tree) (from : ℕ) (message : Message) (node : NodeState) → jobs (message_result t 0 from message node).node.records ≡ jobs node.records
-top_taken t from (msg.Pub seq job) node = job_stray (is_neighbour t 0 from) (may_take seq job node) node (after_pub t 0 seq job node)
+top_taken t from (msg.Pub seq job) node = job_stray (is_neighbour t 0 from) (may_take seq job node) (not (runs_next seq node) || is_none (unread_leaf job.target)) (BadPattern (unwrap_or (unread_leaf job.target) 0)) node (after_pub t 0 seq job node)
 top_taken t from (msg.Have n) node = by_stray (stray_of t 0 from (msg.Have n) node) node (after_message t 0 from (msg.Have n) node) refl
 top_taken t from (msg.Up id n entry) node =
     by_stray (stray_of t 0 from (msg.Up id n entry) node) node (after_message t 0 from (msg.Up id n entry) node) (recorded_same (n == length (log id node.records)) id entry node)
@@ -60,7 +64,7 @@ set_top nodes zero v h = elim (cases_lt 0 (length nodes)) [
 ]
 set_top nodes (suc k) v h = rw (at_other nodes 0 (suc k) v (λ e. omega arith)) refl
 
-delivered_top : (f : FleetConfig) (w : Network) (i : ℕ) → top_jobs (after_delivery f w (slice_get w.packets i)) ≡ top_jobs w
+pub delivered_top : (f : FleetConfig) (w : Network) (i : ℕ) → top_jobs (after_delivery f w (slice_get w.packets i)) ≡ top_jobs w
 delivered_top f w i = elim (slice_get_cases w.packets i).1 [
   | inl c ↦ rw c.2 (by_receiver (λ v. top_jobs v ≡ top_jobs w) (nat_lt c.0.to (length w.nodes)) w (after_receipt f w c.0) refl
       (set_top w.nodes c.0.to (message_result f.tree c.0.to c.0.from c.0.message (node_at w.nodes c.0.to)).node
@@ -71,10 +75,10 @@ delivered_top f w i = elim (slice_get_cases w.packets i).1 [
 -- ---- every run
 
 after_bound : (f : FleetConfig) (turn : Turn) (w : Network) → 0 < length w.nodes → length (top_jobs w) ≤ f.max_jobs → length (top_jobs (after f turn w)) ≤ f.max_jobs
-after_bound f (kind.Publish moment tgt fun args) w some h =
-    published_either (λ v. length (top_jobs v) ≤ f.max_jobs) w f.max_jobs moment (λ jid. job_of jid tgt fun args) h
-    (λ jid few late. rw (at_same w.nodes 0 (with_record (Publish (job_of jid tgt fun args)) (node_at w.nodes 0)) some, jobs_push)
-    (let e = length_push (top_jobs w) (job_of jid tgt fun args) in omega arith))
+after_bound f (kind.Publish moment k tgt fun args) w some h =
+    published_either (λ v. length (top_jobs v) ≤ f.max_jobs) f w moment (order k tgt fun args) h
+    (λ job new. rw (at_same w.nodes 0 (with_record (Publish job) (node_at w.nodes 0)) some, jobs_push)
+    (let few = new.few in let e = length_push (top_jobs w) job in omega arith))
 after_bound f (kind.Send from to count) w some h = h
 after_bound f (kind.Deliver i) w some h = subst (λ js. length js ≤ f.max_jobs) (sym (delivered_top f w i)) h
 after_bound f (kind.Report jid) w some h = h

@@ -1,6 +1,6 @@
 -- What each message keeps, in the network.
 use Rattle.std.proofs.Common.{◌≡◌, ℕ, ◌<◌, ◌≤◌, ◌∙◌, sym, ap, refl, inl, inr, Bool, true, false, List, [], ◌∷◌, ◌++◌, length, set, arith, append-nil, le_refl}
-use Rattle.std.specs.Prelude.{Option, None, Some, slice_get, nat_le, ◌&&◌, ◌||◌, not, bytes_eq}
+use Rattle.std.specs.Prelude.{Option, None, Some, is_none, slice_get, nat_le, ◌&&◌, ◌||◌, not, bytes_eq}
 use Rattle.std.specs.List.{AllByRecursion}
 use Rattle.std.proofs.lemmas.List.{get_or-set_same, get_or-set_other, length-set, set-get_or}
 use Rattle.std.proofs.lemmas.Bool.{cases_eq, eq-eqb, le-leb}
@@ -15,18 +15,20 @@ use Rattle.salt_wire.specs.declared.message.Message.TheVariants as msg
 use Rattle.node_core.specs.declared.faults.Stray.{Stray}
 use Rattle.fleet_config.specs.Fleet.{FleetConfig}
 use Rattle.fleet_config.specs.Tree.{Tree, id_of, parent_of, is_minion, is_parent, place_of, IsTree, branch}
-use Rattle.minion_core.specs.Flat.{nothing_held, is_rising, job_record}
+use Rattle.minion_core.specs.Flat.{is_rising, job_record}
 use Rattle.minion_core.proofs.Own.{done_is}
 use Rattle.tree_laws.proofs.Done.{count_done}
 use Rattle.node_core.specs.Records.{jobs, jobs_held, count_in, log}
 use Rattle.node_core.specs.Counts.{raised_counts}
-use Rattle.node_core.specs.Node.{NodeState, Answer, with_record, taken_in, after_pub, after_up, after_message, is_neighbour, may_take, is_below, is_here, is_next, may_record, names_held, stray_of, unless_stray, message_result}
+use Rattle.node_core.specs.Node.{NodeState, Answer, with_record, taken_in, after_pub, after_up, after_message, is_neighbour, may_take, is_below, is_here, is_next, runs_next, may_record, names_held, stray_of, unless_stray, message_result}
+use Rattle.exec_functions.specs.Limits.{no_holdings}
+use Rattle.target_match.specs.Unread.{unread_leaf}
 use Rattle.fleet_config.specs.Causes.{first_cause}
 use Rattle.node_core.specs.Node.Answer.{IsStray, Silent, Reply}
 use Rattle.tree_world.specs.Packets.{Packet}
 use Rattle.tree_world.specs.Network.{Network, node_at, with_node_at, with_packets, packet, with_reply, after_receipt}
 use Rattle.tree_laws.specs.Lists.{IsPrefix}
-use Rattle.tree_laws.specs.Invariant.{Fits, IsSent, Names, IsMaster, IsNode, IsPair, Holds}
+use Rattle.tree_laws.specs.Invariant.{Fits, IsSent, Names, IsMaster, IsNode, IsPair, IsReadableJob, Holds}
 use Rattle.tree_laws.proofs.Lists.{prefix_same, prefix_next, prefix_at, prefix_length, all_join, all_imply, all_at}
 use Rattle.tree_laws.proofs.Trees.{IsChild, child, branch_in, branch_low, parent_before}
 use Rattle.tree_laws.proofs.Places.{IsMinionIn, minion_here, id_here, same_id, place_at}
@@ -36,7 +38,7 @@ use Rattle.tree_laws.proofs.Steps.{fits_more, names_more, node_longer, node_know
 
 -- the node past the end
 abbrev pub blank : NodeState
-blank = record { minion = false; records = []; held = nothing_held; known_jobs = []; known_ups = [] }
+blank = record { minion = false; records = []; held = no_holdings; known_jobs = []; known_ups = [] }
 
 pub at_same : (nodes : List NodeState) (k : ℕ) (v : NodeState) → k < length nodes → node_at (set nodes k v) k ≡ v
 at_same nodes k v l = get_or-set_same nodes k v blank l
@@ -63,16 +65,18 @@ sent_more f nodes k v l pre p h = record {
 pub node_step : (f : Tree) (w : Network) (k : ℕ) (v : NodeState) → IsTree f → Holds f w → k < length f → IsPrefix (node_at w.nodes k).records v.records
     → length (jobs (node_at (set w.nodes k v) 0).records) ≤ 65535
     → is_rising (jobs (node_at (set w.nodes k v) 0).records) ≡ true
+    → AllByRecursion IsReadableJob (jobs (node_at (set w.nodes k v) 0).records)
     → IsNode f (jobs (node_at (set w.nodes k v) 0).records) k v
     → (0 < k → IsPair f (parent_of f k) k (node_at w.nodes (parent_of f k)) v)
     → ((c : ℕ) → 0 < c → c < length f → parent_of f c ≡ k → IsPair f k c v (node_at w.nodes c))
     → Holds f (with_node_at w k v)
-node_step f w k v fleet h l grows few rising node below above =
+node_step f w k v fleet h l grows few rising readable node below above =
     let in' : k < length w.nodes = let s = h.size in omega arith in
     record {
       size = rw length-set h.size;
       few = few;
       rising = rising;
+      readable = readable;
       each = λ i u. elim (cases_eq i k) [
         | inl e ↦ rw (e, at_same w.nodes k v in') node
         | inr ne ↦ rw (at_other w.nodes i k v ne) (node_longer f (jobs (node_at w.nodes 0).records) _ i (node_at w.nodes i) (jobs_prefix _ _ (at_grows w.nodes k v in' grows 0)) (h.each i u))
@@ -103,7 +107,7 @@ node_step_same f w k v fleet h l grows stays node below above =
       | inl e ↦ rw (← e) (rw (at_same w.nodes 0 v (rw (← e) at in')) (stays (sym e)))
       | inr ne ↦ rw (at_other w.nodes 0 k v ne) refl
     ] in
-    node_step f w k v fleet h l grows (rw same h.few) (rw same h.rising) (rw same node) below above
+    node_step f w k v fleet h l grows (rw same h.few) (rw same h.rising) (rw same h.readable) (rw same node) below above
 
 abbrev pub FitsReply : Tree → ℕ → ℕ → NodeState → Answer → Type 0
 FitsReply f me to node (IsStray cause) = ⊥
@@ -136,9 +140,6 @@ of_child f p c e = rw e refl
 of_parent : (f : Tree) (p c : ℕ) → is_parent f p c ≡ true → is_neighbour f c p ≡ true
 of_parent f p c e = rw e (or_true (is_parent f c p))
 
-two_tests : (a b : Bool) (x y : Stray) → a ≡ true → b ≡ true → first_cause ((a, x) ∷ (b, y) ∷ []) ≡ None
-two_tests a b x y p q = rw (p, q) refl
-
 three_tests : (a b c : Bool) (x y z : Stray) → a ≡ true → b ≡ true → c ≡ true → first_cause ((a, x) ∷ (b, y) ∷ (c, z) ∷ []) ≡ None
 three_tests a b c x y z p q r = rw (p, q, r) refl
 
@@ -150,10 +151,12 @@ by_none : (f : Tree) (me from : ℕ) (message : Message) (node : NodeState) → 
     → message_result f me from message node ≡ after_message f me from message node
 by_none f me from message node e = ap (λ (o : Option Stray). unless_stray o node (after_message f me from message node)) e
 
-pub taken_pub : (f : Tree) (me from seq : ℕ) (job : Job) (node : NodeState) → is_parent f from me ≡ true → may_take seq job node ≡ true
+pub taken_pub : (f : Tree) (me from seq : ℕ) (job : Job) (node : NodeState) → is_parent f from me ≡ true → may_take seq job node ≡ true → IsReadableJob job
     → message_result f me from (msg.Pub seq job) node ≡ after_pub f me seq job node
-taken_pub f me from seq job node p g =
-    by_none f me from (msg.Pub seq job) node (two_tests (is_neighbour f me from) (is_parent f from me && may_take seq job node) _ _ (of_parent f from me p) (and_true (is_parent f from me) (may_take seq job node) p g))
+taken_pub f me from seq job node p g r =
+    by_none f me from (msg.Pub seq job) node (three_tests (is_neighbour f me from) (is_parent f from me && may_take seq job node)
+    (not (runs_next seq node) || is_none (unread_leaf job.target)) _ _ _
+    (of_parent f from me p) (and_true (is_parent f from me) (may_take seq job node) p g) (rw r (or_true (not (runs_next seq node)))))
 
 took_pub : (f : Tree) (w : Network) (p c seq : ℕ) (job : Job) → IsTree f → Holds f w → Fits f p c (node_at w.nodes p) (msg.Pub seq job) → Took f w p c (msg.Pub seq job)
 took_pub f w p c seq job fleet h fits =
@@ -170,7 +173,8 @@ took_pub f w p c seq job fleet h fits =
     let few = h.few in
     let at : slice_get (jobs (node_at w.nodes 0).records) seq ≡ Some job = prefix_at _ _ seq job gp.prefix fits.1 in
     let a : NodeState = node_at w.nodes c in
-    rw (taken_pub f c p seq job a fits.0 (pub_may f w p c seq job fleet h fits.0 fits.1 (omega arith)))
+    rw (taken_pub f c p seq job a fits.0 (pub_may f w p c seq job fleet h fits.0 fits.1 (omega arith))
+    (all_at IsReadableJob (jobs (node_at w.nodes 0).records) seq job h.readable at))
     (elim (eqb_tells seq (jobs_held a.records)) [
       | inr y ↦ rw y.0 (unchanged f w c h, (fits.0, le_refl _))
       | inl y ↦ rw y.0
@@ -349,7 +353,7 @@ took f w from to (msg.UpHave id n) fleet h fits = took_up_have f w from to id n 
 took f w from to other fleet h fits = absurd fits
 
 pub packets_step : (f : Tree) (w : Network) (new : List Packet) → Holds f w → AllByRecursion (IsSent f w.nodes) new → Holds f (with_packets w new)
-packets_step f w new h all = record { size = h.size; few = h.few; rising = h.rising; each = h.each; pairs = h.pairs; sent = all_join (IsSent f w.nodes) w.packets new h.sent all }
+packets_step f w new h all = record { size = h.size; few = h.few; rising = h.rising; readable = h.readable; each = h.each; pairs = h.pairs; sent = all_join (IsSent f w.nodes) w.packets new h.sent all }
 
 reply_step : (f : Tree) (w : Network) (p : Packet) (answer : Answer) → Holds f w → p.to < length f → p.from < length f
     → FitsReply f p.to p.from (node_at w.nodes p.to) answer → Holds f (record w { packets = with_reply p answer w.packets })

@@ -12,7 +12,8 @@ use Rattle.salt_wire.specs.declared.deed.Deed.TheVariants.{Publish, Up}
 use Rattle.salt_wire.specs.declared.message.Message.{Message}
 use Rattle.salt_wire.specs.declared.message.Message.TheVariants as msg
 use Rattle.node_core.specs.Records.{jobs_held, log}
-use Rattle.node_core.specs.Node.{NodeState, MessageResult, with_record, with_next_record, taken_in, after_message, stray_of, unless_stray, message_result, job_of}
+use Rattle.node_core.specs.Publications.{order}
+use Rattle.node_core.specs.Node.{NodeState, MessageResult, with_record, with_next_record, taken_in, after_message, stray_of, unless_stray, message_result}
 use Rattle.fleet_turns.specs.declared.turn.Turn.{Turn}
 use Rattle.fleet_turns.specs.declared.turn.Turn.TheVariants as kind
 use Rattle.tree_world.specs.Network.{Network, node_at, top_jobs, after_receipt, after_delivery, after, after_all}
@@ -20,7 +21,8 @@ use Rattle.tree_laws.specs.Lists.{IsPrefix}
 use Rattle.tree_laws.proofs.Lists.{prefix_same, prefix_trans}
 use Rattle.tree_laws.proofs.Records.{jobs_prefix}
 use Rattle.tree_laws.proofs.Calls.{at_grows}
-use Rattle.tree_laws.proofs.Turns.{published_either, by_receiver}
+use Rattle.tree_laws.proofs.Published.{published_either}
+use Rattle.tree_laws.proofs.Turns.{by_receiver}
 
 -- one call on a node
 recorded_grows : (t : Bool) (new : Deed) (node : NodeState) → IsPrefix node.records (with_next_record t new node).records
@@ -61,9 +63,9 @@ delivered_grows f w i = elim (slice_get_cases w.packets i).1 [
 ]
 
 after_grows : (f : FleetConfig) (turn : Turn) (w : Network) → Grew w (after f turn w)
-after_grows f (kind.Publish moment tgt fun args) w =
-    published_either (Grew w) w f.max_jobs moment (λ jid. job_of jid tgt fun args) (λ i. prefix_same (node_at w.nodes i).records)
-    (λ jid few late. set_grows w.nodes 0 (with_record (Publish (job_of jid tgt fun args)) (node_at w.nodes 0)) (Publish (job_of jid tgt fun args) ∷ [], refl))
+after_grows f (kind.Publish moment k tgt fun args) w =
+    published_either (Grew w) f w moment (order k tgt fun args) (λ i. prefix_same (node_at w.nodes i).records)
+    (λ job new. set_grows w.nodes 0 (with_record (Publish job) (node_at w.nodes 0)) (Publish job ∷ [], refl))
 after_grows f (kind.Send from to count) w = λ i. prefix_same (node_at w.nodes i).records
 after_grows f (kind.Deliver i) w = delivered_grows f w i
 after_grows f (kind.Report jid) w = λ i. prefix_same (node_at w.nodes i).records

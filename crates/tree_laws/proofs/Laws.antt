@@ -13,9 +13,9 @@ use Rattle.node_core.specs.Records.{jobs_held, log, log_after}
 use Rattle.std.specs.Prelude.{flat_map}
 use Rattle.exec_functions.specs.declared.holdings.Holdings.{Holdings}
 use Rattle.salt_wire.specs.declared.deed.Deed.{Deed}
-use Rattle.fleet_config.specs.Tree.{place_of}
+use Rattle.fleet_config.specs.Tree.{place_of, held_of}
 use Rattle.tree_laws.proofs.Records.{held_without}
-use Rattle.node_core.specs.Node.{NodeState, Answer, message_result, held_of}
+use Rattle.node_core.specs.Node.{NodeState, Answer, message_result}
 use Rattle.node_core.specs.Node.Answer.{IsStray}
 use Rattle.tree_world.specs.Packets.{Packet}
 use Rattle.tree_world.specs.Network.{Network, node_at, top_jobs}

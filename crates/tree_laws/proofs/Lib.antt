@@ -6,11 +6,12 @@ pub mod Done
 pub mod Steps
 pub mod Chains
 pub mod Calls
+pub mod Published
 pub mod Turns
 pub mod Ascends
 pub mod Rows
 pub mod Laws
 pub mod Bounds
+pub mod Whence
 pub mod Grows
 pub mod Runs
-pub mod Example

@@ -11,12 +11,11 @@ use Rattle.std.proofs.lemmas.Bool.{cases_lt}
 use Rattle.std.proofs.lemmas.Map.Text.{is_eq-slice_cmp}
 use Rattle.std.proofs.lemmas.Slice.Eq.{bytes_eq-Decides}
 use Rattle.std.proofs.lemmas.List.Elements.{All-contains, recursion_from_All, All-filter, All-weaker, filter_passes}
-use Rattle.fleet_config.specs.Tree.{Tree, up_to, id_of, place_of, is_minion, is_within, parent_of, branch_by, minions, IsTree}
+use Rattle.fleet_config.specs.Tree.{Tree, up_to, id_of, held_of, place_of, is_minion, is_within, parent_of, branch_by, minions, IsTree}
 use Rattle.salt_wire.specs.declared.message.Job.{Job}
 use Rattle.salt_value.specs.declared.outcome.Outcome.{Outcome}
 use Rattle.salt_value.specs.declared.outcome.Row.{Row}
 use Rattle.minion_core.specs.Flat.{row_of, flat_up, return_of}
-use Rattle.node_core.specs.Node.{held_of}
 use Rattle.tree_world.specs.Report.{is_before, by_id, rows, flat_report}
 use Rattle.tree_laws.specs.Laws.{flat_outcome, IsFlatRow, HasFlatRows, AscendById}
 use Rattle.tree_world.proofs.Orders.{is_order}

@@ -1,10 +1,8 @@
 -- What each turn keeps.
-use Rattle.std.proofs.Common.{subst, ◌≡◌, ℕ, zero, suc, ◌+◌, ◌<◌, ◌⊎◌, ◌∙◌, sym, ap, refl, inl, inr, Bool, true, false, max, List, [], ◌∷◌, ◌++◌, length, take, drop, arith, le_refl}
-use Rattle.std.specs.Prelude.{Option, None, Some, map, flat_map, slice_get, filter, nat_le, ◌&&◌, if◌then◌else◌, nat_lt}
+use Rattle.std.proofs.Common.{◌≡◌, ℕ, zero, suc, ◌+◌, ◌<◌, ◌⊎◌, ◌∙◌, sym, ap, refl, inl, inr, Bool, true, false, List, [], ◌∷◌, ◌++◌, length, take, drop, arith, le_refl}
+use Rattle.std.specs.Prelude.{Some, map, flat_map, slice_get, filter, ◌&&◌, if◌then◌else◌, nat_lt}
 use Rattle.std.specs.List.{AllByRecursion}
 use Rattle.std.proofs.lemmas.List.{length_push, length-map}
-use Rattle.std.proofs.lemmas.Bool.{lt-ltb}
-use Rattle.std.proofs.lemmas.Bool.Decides.{leb_tells}
 use Rattle.std.proofs.lemmas.Option.{slice_get_cases}
 use Rattle.fleet_config.specs.declared.fleet.Member.{Member}
 use Rattle.salt_wire.specs.declared.message.Job.{Job}
@@ -13,26 +11,26 @@ use Rattle.salt_wire.specs.declared.deed.Deed.TheVariants.{Publish, Boot}
 use Rattle.salt_wire.specs.declared.message.Message.{Message}
 use Rattle.fleet_config.specs.Limits.{most_jobs}
 use Rattle.fleet_config.specs.Fleet.{FleetConfig, IsFleet}
-use Rattle.fleet_config.specs.Tree.{Tree, member, id_of, parent_of, is_minion, is_parent, is_within, IsTree, up_to, minions, runs_jobs}
-use Rattle.minion_core.specs.Flat.{nothing_held, last_jid, is_after, is_later}
+use Rattle.fleet_config.specs.Tree.{Tree, member, id_of, held_of, parent_of, is_minion, is_parent, is_within, IsTree, up_to, minions, runs_jobs}
+use Rattle.minion_core.specs.Flat.{is_later}
 use Rattle.node_core.specs.Records.{jobs, jobs_held, log}
 use Rattle.node_core.specs.Counts.{known_count}
-use Rattle.node_core.specs.Node.{held_of, NodeState, with_record, is_here, pubs_from, ups_from, pending_ups, pending, publication, first_node, job_of}
-use Rattle.node_core.specs.declared.faults.PublishFault.TheVariants.{JidEnd}
-use Rattle.salt_value.specs.Jid.{next_jid, greatest_jid}
-use Rattle.std.specs.Option.{ok_or}
+use Rattle.node_core.specs.Node.{NodeState, with_record, is_here, pubs_from, ups_from, pending_ups, pending, first_held, first_node}
+use Rattle.node_core.specs.Publications.{order}
+use Rattle.exec_functions.specs.declared.holdings.Holdings.{Holdings}
 use Rattle.std.specs.Prelude.{min}
 use Rattle.fleet_turns.specs.declared.turn.Turn.{Turn}
 use Rattle.fleet_turns.specs.declared.turn.Turn.TheVariants as kind
-use Rattle.tree_world.specs.Network.{Network, node_at, start, top_jobs, with_node_at, with_packets, after_publication, packet, sent_packets, after_receipt, after_delivery, after, after_all, most_sent}
+use Rattle.tree_world.specs.Network.{Network, node_at, start, top_jobs, with_node_at, with_packets, packet, sent_packets, after_receipt, after_delivery, after, after_all, most_sent}
 use Rattle.fleet_turns.specs.Turns.{IsTurn}
-use Rattle.tree_laws.specs.Invariant.{Fits, IsSent, Names, IsNode, IsPair, Holds}
+use Rattle.tree_laws.specs.Invariant.{Fits, IsSent, Names, IsNode, IsPair, IsReadableJob, Holds}
 use Rattle.tree_laws.proofs.Lists.{prefix_same, all_join, all_imply, all_at, all_map, all_take, at_drop}
 use Rattle.tree_laws.proofs.Trees.{IsChild, child, parent_before, both}
 use Rattle.tree_laws.proofs.Places.{IsMinionIn, here_minion}
 use Rattle.tree_laws.proofs.Chains.{rising_push}
 use Rattle.tree_laws.proofs.Records.{log_publish, jobs_push, held_push}
 use Rattle.tree_laws.proofs.Steps.{names_more, pair_above_more}
+use Rattle.tree_laws.proofs.Published.{published_either}
 use Rattle.tree_laws.proofs.Calls.{at_same, node_step, packets_step, received_step}
 
 -- a packet to a node that is there is received, and another does nothing
@@ -64,9 +62,9 @@ master_add f a job z h = record {
   names = λ id. rw (log_publish, held_push) (all_imply (Names (jobs_held a.records)) (Names (jobs_held a.records + 1)) (names_more _ _ (omega arith)) (log id a.records) (h.names id));
 }
 
-add_step : (f : Tree) (w : Network) (job : Job) → IsTree f → Holds f w → length (top_jobs w) < most_jobs → is_later (top_jobs w) job ≡ true
+add_step : (f : Tree) (w : Network) (job : Job) → IsTree f → Holds f w → length (top_jobs w) < most_jobs → is_later (top_jobs w) job ≡ true → IsReadableJob job
     → Holds f (with_node_at w 0 (with_record (Publish job) (node_at w.nodes 0)))
-add_step f w job fleet h few late =
+add_step f w job fleet h few late readable =
     let a : NodeState = node_at w.nodes 0 in
     let b : NodeState = with_record (Publish job) a in
     let some = fleet.some in
@@ -74,38 +72,11 @@ add_step f w job fleet h few late =
     node_step f w 0 b fleet h some (Publish job ∷ [], refl)
     (rw (at_same w.nodes 0 b in', jobs_push) (let e = length_push (jobs a.records) job in omega arith))
     (rw (at_same w.nodes 0 b in', jobs_push) (rising_push (jobs a.records) job h.rising late))
+    (rw (at_same w.nodes 0 b in', jobs_push) (all_join IsReadableJob (jobs a.records) (job ∷ []) h.readable (readable, tt)))
     (rw (at_same w.nodes 0 b in') (master_add f a job (top_master f fleet) (h.each 0 some)))
     (λ z. absurd (omega arith))
     (λ d dlo dup de. let g : IsPair f 0 d a (node_at w.nodes d) = rw de at (h.pairs d dlo dup) in
     pair_above_more f 0 d a (node_at w.nodes d) (Publish job) (λ id. log_publish id a.records job) g)
-
--- the jid of a publication is later than the last
-within_greatest : (t : Bool) (next jid : ℕ) → (if t then Some next else None) ≡ Some jid → next ≡ jid
-within_greatest true next jid e = cc
-within_greatest false next jid e = absurd cc
-
-pub next_later : (last : Option ℕ) (moment jid : ℕ) → next_jid last moment ≡ Some jid → is_after last jid ≡ true
-next_later None moment jid e = refl
-next_later (Some last) moment jid e =
-    let is : max moment (last + 1) ≡ jid = within_greatest (nat_le (max moment (last + 1)) greatest_jid) (max moment (last + 1)) jid e in
-    lt-ltb last jid (omega arith)
-
--- whatever holds of the network as it was, and as it is with the record, holds after a publication
-pub published_either : (P : Network → Type 0) (w : Network) (max_jobs moment : ℕ) (job : ℕ → Job) → P w
-    → ((jid : ℕ) → length (top_jobs w) < max_jobs → is_after (last_jid (top_jobs w)) jid ≡ true → P (with_node_at w 0 (with_record (Publish (job jid)) (node_at w.nodes 0))))
-    → P (after_publication job (publication max_jobs moment (top_jobs w)) w)
-published_either P w max_jobs moment job old more = elim (leb_tells max_jobs (length (top_jobs w))) [
-  | inl y ↦ rw y.0 old
-  | inr y ↦ rw y.0 (go (omega arith) (next_jid (last_jid (top_jobs w)) moment) refl)
-] where
-  go : length (top_jobs w) < max_jobs → (o : Option ℕ) → next_jid (last_jid (top_jobs w)) moment ≡ o → P (after_publication job (ok_or o JidEnd) w)
-  go few None e = old
-  go few (Some jid) e = more jid few (next_later (last_jid (top_jobs w)) moment jid e)
-
-publish_step : (f : FleetConfig) (w : Network) (moment : ℕ) (job : ℕ → Job) → ((jid : ℕ) → (job jid).jid ≡ jid) → IsFleet f → Holds f.tree w → Holds f.tree (after_publication job (publication f.max_jobs moment (top_jobs w)) w)
-publish_step f w moment job named fleet h =
-    published_either (Holds f.tree) w f.max_jobs moment job h
-    (λ jid few late. add_step f.tree w (job jid) fleet.tree h (let l = fleet.jobs in omega arith) (subst (λ j. is_after (last_jid (top_jobs w)) j ≡ true) (sym (named jid)) late))
 
 -- send: what is pending may be sent
 pubs_fit : (f : Tree) (me to : ℕ) (node : NodeState) → is_parent f me to ≡ true → (seq : ℕ) (js : List Job)
@@ -176,7 +147,9 @@ send_step f w from to count h lf lt g =
     (all_take (Fits f.tree from to (node_at w.nodes from)) (min count most_sent) all g))
 
 pub after_step : (f : FleetConfig) (turn : Turn) (w : Network) → IsFleet f → IsTurn f turn → Holds f.tree w → Holds f.tree (after f turn w)
-after_step f (kind.Publish moment tgt fun args) w fleet t h = publish_step f w moment (λ jid. job_of jid tgt fun args) (λ jid. refl) fleet h
+after_step f (kind.Publish moment k tgt fun args) w fleet t h =
+    published_either (Holds f.tree) f w moment (order k tgt fun args) h
+    (λ job new. let l = fleet.limits.few_jobs in let few = new.few in add_step f.tree w job fleet.tree h (omega arith) new.later new.readable)
 after_step f (kind.Send from to count) w fleet t h = send_step f w from to count h t.0 t.1 (pending_fits f.tree from to (node_at w.nodes from) fleet.tree t.3)
 after_step f (kind.Deliver i) w fleet t h = delivered_step f w i fleet.tree h
 after_step f (kind.Report jid) w fleet t h = h
@@ -187,40 +160,40 @@ run_holds f [] w fleet t h = h
 run_holds f (turn ∷ turns) w fleet t h = run_holds f turns (after f turn w) fleet t.1 (after_step f turn w fleet t.0 h)
 
 -- the start
-first_of : Bool → NodeState
-first_of t = record { minion = t; records = if t then Boot ∷ [] else []; held = nothing_held; known_jobs = []; known_ups = [] }
+first_of : Bool → Holdings → NodeState
+first_of t held = record { minion = t; records = if t then Boot ∷ [] else []; held = held; known_jobs = []; known_ups = [] }
 
 first_at : (f : Tree) (i : ℕ) → i < length f → node_at (map first_node f) i ≡ first_node (member f i)
 first_at [] i l = absurd (omega arith)
 first_at (s ∷ f) zero l = refl
 first_at (s ∷ f) (suc i) l = first_at f i (omega arith)
 
--- what a node holds as it starts
-holds_first : (f : Tree) (i : ℕ) → nothing_held ≡ held_of f i
-unfolding held_of
-holds_first f i = refl
+-- what a minion holds as it starts
+holds_first : (f : Tree) (i : ℕ) → is_minion f i ≡ true → first_held (member f i) ≡ held_of f i
+holds_first f i z = rw z refl
 
-first_holds : (f : Tree) (top : List Job) (i : ℕ) (t : Bool) → is_minion f i ≡ t → IsNode f top i (first_of t)
+first_holds : (f : Tree) (top : List Job) (i : ℕ) (t : Bool) (held : Holdings) → is_minion f i ≡ t → (t ≡ true → held ≡ held_of f i)
+    → IsNode f top i (first_of t held)
 unfolding first_of
-first_holds f top i true z = record {
+first_holds f top i true held z e = record {
   runs = sym z;
   master = λ y. absurd (let x = sym z ∙ y in cc);
-  minion = λ y. record { within = omega arith; acted = refl; held = holds_first f i };
+  minion = λ y. record { within = omega arith; acted = refl; held = e refl };
   names = λ id. (refl, tt);
 }
-first_holds f top i false z = record {
+first_holds f top i false held z e = record {
   runs = sym z;
   master = λ y. record { counted = refl; prefix = (top, refl) };
   minion = λ y. absurd (let x = sym z ∙ y in cc);
   names = λ id. tt;
 }
 
-first_pair : (f : Tree) (p c : ℕ) (t : Bool) → IsPair f p c (first_of false) (first_of t)
+first_pair : (f : Tree) (p c : ℕ) (above below : Holdings) (t : Bool) → IsPair f p c (first_of false above) (first_of t below)
 unfolding first_of
-first_pair f p c true = record { held = omega arith; known_jobs = omega arith; logs = λ m e. (_, refl); known_ups = λ m e. omega arith }
-first_pair f p c false = record { held = omega arith; known_jobs = omega arith; logs = λ m e. (_, refl); known_ups = λ m e. omega arith }
+first_pair f p c above below true = record { held = omega arith; known_jobs = omega arith; logs = λ m e. (_, refl); known_ups = λ m e. omega arith }
+first_pair f p c above below false = record { held = omega arith; known_jobs = omega arith; logs = λ m e. (_, refl); known_ups = λ m e. omega arith }
 
-first_is : (m : Member) → first_node m ≡ first_of (runs_jobs m.role)
+first_is : (m : Member) → first_node m ≡ first_of (runs_jobs m.role) (first_held m)
 unfolding first_of
 first_is m = refl
 
@@ -233,8 +206,9 @@ start_holds f fleet = let t : Tree = f.tree in record {
   size = length-map t first_node;
   few = rw (first_jobs f fleet) (omega arith);
   rising = rw (first_jobs f fleet) refl;
-  each = λ i u. rw (first_at t i u, first_is (member t i)) (first_holds t _ i (is_minion t i) refl);
+  readable = rw (first_jobs f fleet) tt;
+  each = λ i u. rw (first_at t i u, first_is (member t i)) (first_holds t _ i (is_minion t i) (first_held (member t i)) refl (holds_first t i));
   pairs = λ c lo u. let b = parent_before t c fleet lo in
-      rw (first_at t c u, first_at t (parent_of t c) (omega arith), first_is (member t c), first_is (member t (parent_of t c)), fleet.master c lo u) (first_pair t (parent_of t c) c (is_minion t c));
+      rw (first_at t c u, first_at t (parent_of t c) (omega arith), first_is (member t c), first_is (member t (parent_of t c)), fleet.master c lo u) (first_pair t (parent_of t c) c _ _ (is_minion t c));
   sent = tt;
 }

@@ -9,6 +9,7 @@ use Rattle.tree_laws.proofs.Lists.{prefix_same}
 use Rattle.tree_laws.proofs.Turns.{run_holds, start_holds}
 use Rattle.tree_laws.proofs.Laws.{prefix_law, jobs_law, names_law, packets_law, acted_law, outcomes_law, report_law, so_far_law, none_stray_law}
 use Rattle.tree_laws.proofs.Bounds.{top_bound}
+use Rattle.tree_laws.proofs.Whence.{top_told}
 use Rattle.tree_laws.proofs.Rows.{flat_rows, rows_ascend}
 use Rattle.tree_laws.proofs.Grows.{run_grows, top_grows}
 use Rattle.tree_laws.proofs.Runs.{after_append, all_front}
@@ -22,6 +23,7 @@ returns c = record {
   invariant = holds;
   prefixes = λ f turns run c lo up. prefix_law f.tree (network_after f turns) c run.fleet.tree (holds f turns run) lo up;
   jobs_in_order = λ f turns run. jobs_law f (network_after f turns) (holds f turns run) (top_bound f turns run.fleet run.each);
+  published = λ f turns run. top_told f turns run.fleet run.each;
   names_held = λ f turns run i l. names_law f.tree (network_after f turns) i (holds f turns run) l;
   packets_fit = λ f turns run. packets_law f.tree (network_after f turns) (holds f turns run);
   acted_once = λ f turns run m up z. acted_law f.tree (network_after f turns) m (holds f turns run) up z;
