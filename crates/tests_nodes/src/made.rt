@@ -270,7 +270,10 @@ pub fn job_for(
     ensures value { JobFits result }
 {
     let args = arguments(rt, alloc, args);
-    if !list_fits(args.as_slice()) || tgt.len() > MOST_TEXT_BYTES {
+    if !list_fits(args.as_slice()) {
+        panic!(rt; "{FAILED}");
+    }
+    if tgt.len() > MOST_TEXT_BYTES {
         panic!(rt; "{FAILED}");
     }
     let tree = tree(rt, alloc, kind, tgt);

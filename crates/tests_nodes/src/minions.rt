@@ -258,11 +258,7 @@ fn jobs(rt: &impl Abort, alloc: Global, orders: &[Order]) -> Vec<Job> {
 }
 
 // The matcher of each job more.
-fn push_matchers(
-    alloc: Global,
-    jobs: &[Job],
-    matchers: &mut Vec<Matcher>,
-) -> Result<(), AllocError>
+fn push_matchers(alloc: Global, jobs: &[Job], matchers: &mut Vec<Matcher>) -> Result<(), AllocError>
     ensures ok { OnOk result (matchers.new.items ≡ matchers.old.items ++ map (λ job. job.target) jobs.now) }
 {
     for job in jobs {
