@@ -20,13 +20,13 @@ ghost use Rattle.salt_wire.specs.declared.message.Message.TheVariants as m;
 
 use crate::counts::Counts;
 use crate::logs::Logs;
+use crate::publishing::order_job;
 use crate::recording::{push_both, push_run, push_up};
 use crate::sending::{push_entries, push_pubs};
 use crate::strays::{
-    first_cause, is_below, is_first, is_here, is_later, is_neighbour, names_held,
-    place_of, return_of, seq_of, stray_other, take_fault,
+    first_cause, is_below, is_first, is_here, is_later, is_neighbour, names_held, place_of,
+    return_of, seq_of, stray_other, take_fault,
 };
-use crate::publishing::order_job;
 use crate::{PendFault, PublishFault, Stray, TakeFault};
 use exec_functions::Holdings;
 use fleet_config::{Fleet, MOST_JOBS};
@@ -175,15 +175,11 @@ impl Node {
         fun: &Word,
         args: &[Value],
     ) -> Result<Jid, PublishFault>
-        ensures ok {
-            IfOk result (Publishes fleet.now moment (order kind tgt.now fun.now args.now)
-            self.old self.new)
-        }
+        ensures ok { IfOk result (Publishes fleet.now moment
+            (order kind tgt.now fun.now args.now) self.old self.new) }
         ensures err { OnErr result (self.new ≡ self.old) }
-        ensures fault {
-            IfErr result (IsPublishFault fleet.now moment (order kind tgt.now fun.now args.now)
-            self.old)
-        }
+        ensures fault { IfErr result (IsPublishFault fleet.now moment
+            (order kind tgt.now fun.now args.now) self.old) }
     {
         let jobs = self.jobs();
         let job = order_job(self.alloc, fleet, moment, kind, tgt, fun, args, jobs)?;
@@ -257,9 +253,8 @@ impl Node {
         requires place { minion < length fleet.now.tree }
         requires room { length out.old.items ≤ max }
         requires fits { All Within out.old.items }
-        ensures ok {
-            OnOk result (AddsUps fleet.now.tree self.now minion max out.old.items out.new.items)
-        }
+        ensures ok { OnOk result (AddsUps fleet.now.tree self.now minion max
+            out.old.items out.new.items) }
         ensures fits { OnOk result (All Within out.new.items) }
     {
         let id = fleet.id(minion);
