@@ -1,5 +1,5 @@
 -- The reports of the flat fleet.
-use Rattle.std.specs.Prelude.{ℕ, ◌≡◌, map, zero, suc, List, [], ◌∷◌, ◌++◌, filter_map, Option, None, Some, option_map, slice_get, if◌then◌else◌}
+use Rattle.std.specs.Prelude.{ℕ, ◌≡◌, ◌<◌, ◌+◌, length, take, map, zero, suc, List, [], ◌∷◌, ◌++◌, filter_map, Option, None, Some, slice_get, if◌then◌else◌}
 use Rattle.salt_value.specs.declared.outcome.Outcome.{Outcome}
 use Rattle.exec_functions.specs.Exec.{run, with_change}
 use Rattle.target_tree.specs.declared.target.Target.{Target}
@@ -23,6 +23,14 @@ report_of k fleet jobs (Some job) = record { jid = job.jid; fun = job.fun; rows 
 abbrev pub reports_to : ℕ → List FlatMinion → List Job → List FlatReport
 reports_to zero fleet jobs = []
 reports_to (suc k) fleet jobs = reports_to k fleet jobs ++ report_of k fleet jobs (slice_get jobs k)
+
+-- the reports of all jobs
+abbrev pub flat_reports : List FlatMinion → List Job → List FlatReport
+flat_reports fleet jobs = reports_to (length jobs) fleet jobs
+
+-- the rows of each of these jobs rest on the jobs up to that one alone
+abbrev pub RestOnFirstJobs : List FlatMinion → List Job → Type 0
+RestOnFirstJobs fleet jobs = (k : ℕ) → k < length jobs → job_rows k fleet (take (k + 1) jobs) ≡ job_rows k fleet jobs
 
 -- each of these targets is that of the job in its place, and there are as many of both
 abbrev pub AreBuiltOf : List Job → List Target → Type 0

@@ -89,7 +89,7 @@ fn all_jobs(
     minions: &mut [FlatMinion],
 ) -> Result<Vec<FlatReport>, AllocError>
     requires { spec.AreBuiltOf jobs.now matchers.now }
-    ensures { IfOk result (λ reports. reports.items ≡ spec.reports_to (length jobs.now) minions.old jobs.now) }
+    ensures { IfOk result (λ reports. reports.items ≡ spec.flat_reports minions.old jobs.now) }
 {
     let mut reports = Vec::new(alloc);
     for k in 0..jobs.len() {
@@ -114,7 +114,7 @@ pub fn flat_reports(
     matchers: &[Matcher],
 ) -> Result<Vec<FlatReport>, AllocError>
     requires { spec.AreBuiltOf jobs.now matchers.now }
-    ensures { IfOk result (λ reports. reports.items ≡ spec.reports_to (length jobs.now) fleet.now jobs.now) }
+    ensures { IfOk result (λ reports. reports.items ≡ spec.flat_reports fleet.now jobs.now) }
 {
     let mut minions = copy_fleet(alloc, fleet)?;
     all_jobs(alloc, jobs, matchers, minions.as_mut_slice())

@@ -6,8 +6,8 @@ use Rattle.salt_disk.specs.Disk.{PartState, DiskState, part_of, settled_part, Is
 use Rattle.salt_disk.specs.Crash.{Image, IsPartImage, MayLeave, LeavesOnly, WritesOnly, OthersStay}
 use Rattle.salt_disk.proofs.Moments.{one_call, stays_on}
 use Rattle.salt_disk.proofs.Torn.{settled_image}
-use Rattle.gate_journal.specs.Journal.{record_of, records, header, fresh_journal, IsJournal, Rests}
-use Rattle.gate_journal.specs.Fresh.{HoldsNothing}
+use Rattle.gate_journal.specs.Journal.{record_of, records, header, fresh_journal, IsJournal}
+use Rattle.gate_journal.specs.Fresh.{IsFresh, HoldsNothing}
 use Rattle.gate_journal.proofs.Store.{length-journal}
 
 records_none : (payloads : List (List ℕ)) → length (records payloads) ≤ 0 → payloads ≡ []
@@ -33,7 +33,7 @@ before_create part disk is_settled short image may = record {
 }
 
 -- a call that leaves the disk as it was
-pub stands : {D : Type 0} (past : D → List DiskState) (state : D → DiskState) (old new : D) (P : Image → Type 0) → Stays (state old) (state new) (past old) (past new) → ((image : Image) → MayLeave (state old) image → P image) → LeavesOnly past state old new P
+pub stands : {D : Type 0} (past : D → List DiskState) (state : D → DiskState) (old new : D) (P : Image → Type 0) → Stays past state old new → ((image : Image) → MayLeave (state old) image → P image) → LeavesOnly past state old new P
 stands past state old new P stays before =
     one_call past state old new P (stays_on (state old) (state new) (past old) (past new) stays) before (λ image may. before image (subst (λ (d : DiskState). MayLeave d image) stays.state may))
 
@@ -53,10 +53,18 @@ made_bytes limit bytes old mid new is short first second =
     ap (λ (p : PartState). p.bytes) second ∙ ap (λ (l : List ℕ). put 0 (83 ∷ []) l) mid_is ∙ refl
 
 pub made : (limit : ℕ) (bytes : List ℕ) (old mid new : PartState) → bytes ≡ 0 ∷ (drop 1 (header limit) ++ 0 ∷ []) → length old.bytes ≤ 17 → mid ≡ settled_part (put 0 bytes old.bytes) → new ≡ settled_part (put 0 (83 ∷ []) mid.bytes)
-    → 64 ≤ limit → limit ≤ 1073741824 → Rests limit 17 [] new
+    → 64 ≤ limit → limit ≤ 1073741824 → IsFresh limit new
 made limit bytes old mid new is short first second least greatest =
+    let bytes_are : new.bytes ≡ fresh_journal limit = made_bytes limit bytes old mid new is short first second in
     record {
-      holds = record { gate = 0; rest = []; shut = λ e. absurd (cc); bytes_are = made_bytes limit bytes old mid new is short first second; within = omega (arith, least); least = least; greatest = greatest };
-      counts = refl;
-      is_settled = subst (λ (p : PartState). IsSettled p) (sym second) refl;
+      rests = record {
+        holds = record { gate = 0; rest = []; shut = λ e. absurd (cc); bytes_are = bytes_are; within = omega (arith, least); least = least; greatest = greatest };
+        counts = refl;
+        is_settled = subst (λ (p : PartState). IsSettled p) (sym second) refl;
+      };
+      bytes_are = bytes_are;
+      counts = ap length bytes_are ∙ length-fresh limit;
     }
+  where
+    length-fresh : (limit : ℕ) → length (fresh_journal limit) ≡ 17
+    length-fresh limit = refl

@@ -6,6 +6,7 @@ use Rattle.std.proofs.lemmas.Nat.{be_bytes_4, be_bytes_8}
 use Rattle.std.specs.Int.{w32, w64, from_be_bytes}
 use Rattle.byteorder.specs.Endian.{big_bytes}
 use Rattle.gate_journal.specs.Journal.{record_of, records, header, journal_length, IsJournal}
+use Rattle.gate_journal.specs.Storage.{HasRecord}
 use Rattle.gate_journal.proofs.Store.{records-push}
 
 small_take : (n : ℕ) (xs : List ℕ) → ((i : ℕ) → get_or xs i 0 < 256) → (i : ℕ) → get_or (take n xs) i 0 < 256
@@ -14,18 +15,18 @@ small_take n xs small i = ⊎_elim (λ (lt : i < n). subst (λ k. k < 256) (sym 
 
 pub record_split : (rest first behind : List ℕ) (n room : ℕ) → ((i : ℕ) → get_or rest i 0 < 256) → 4 ≤ length rest → first ≡ take 4 rest → behind ≡ drop 4 rest
     → n ≡ from_be_bytes w32 first → n < length behind → 6 + n ≤ room
-    → (rest ≡ (big_bytes 4 (length (take n behind)) ++ take n behind) ++ take (length behind - n) (drop n behind)) × (1 ≤ length (take (length behind - n) (drop n behind))) × (6 + length (take n behind) ≤ room)
+    → HasRecord room rest (take n behind) (take (length behind - n) (drop n behind))
 record_split rest first behind n room small four first_is behind_is n_is shorter within =
     let long : length (take n behind) ≡ n = omega (arith, length-take n behind, shorter) in
     let number : big_bytes 4 n ≡ take 4 rest = be_bytes_4 (take 4 rest) n (omega (arith, length-take 4 rest, four)) (small_take 4 rest small) (n_is ∙ ap (λ (l : List ℕ). from_be_bytes w32 l) first_is) in
-    let back : take (length behind - n) (drop n behind) ≡ drop n behind = take_rest behind n in (
-      sym (take-append-drop 4 rest)
+    let back : take (length behind - n) (drop n behind) ≡ drop n behind = take_rest behind n in record {
+      bytes_are = sym (take-append-drop 4 rest)
           ∙ ap (λ (l : List ℕ). l ++ drop 4 rest) (sym number ∙ ap (λ (k : ℕ). big_bytes 4 k) (sym long))
           ∙ ap (λ (l : List ℕ). big_bytes 4 (length (take n behind)) ++ l) (sym behind_is ∙ sym (take-append-drop n behind) ∙ ap (λ (l : List ℕ). take n behind ++ l) (sym back))
-          ∙ sym (append_assoc (big_bytes 4 (length (take n behind))) (take n behind) (take (length behind - n) (drop n behind))),
-      omega (arith, ap length back, length-drop n behind, shorter),
-      omega (arith, long, within),
-    )
+          ∙ sym (append_assoc (big_bytes 4 (length (take n behind))) (take n behind) (take (length behind - n) (drop n behind)));
+      gate = omega (arith, ap length back, length-drop n behind, shorter);
+      within = omega (arith, long, within);
+    }
 
 pub header_split : (bytes first rest second : List ℕ) (limit : ℕ) → ((i : ℕ) → get_or bytes i 0 < 256) → 17 ≤ length bytes → first ≡ take 8 bytes → rest ≡ drop 8 bytes → second ≡ take 8 rest
     → first ≡ 83 ∷ 65 ∷ 76 ∷ 84 ∷ 74 ∷ 78 ∷ 76 ∷ 49 ∷ [] → limit ≡ from_be_bytes w64 second → bytes ≡ header limit ++ drop 16 bytes

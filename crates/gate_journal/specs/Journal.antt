@@ -4,7 +4,7 @@ use Rattle.byteorder.specs.Endian.{big_bytes}
 use Rattle.salt_disk.specs.declared.disk.Part.{Part}
 use Rattle.salt_disk.specs.Disk.{PartState, DiskState, part_of, IsSettled}
 use Rattle.salt_disk.specs.declared.disk.Fuse.{Fuse}
-use Rattle.salt_disk.specs.Crash.{Image, MayLeave, IsWithin, OthersMayLeave}
+use Rattle.salt_disk.specs.Crash.{Image, MayLeave, IsUnsure, OthersMayLeave}
 use Rattle.salt_disk.specs.Fuse.{Passes}
 use Rattle.gate_journal.specs.Layout.{journal_name, least_limit, greatest_limit, fresh_length, record_overhead, open_gate, closed_gate}
 
@@ -79,4 +79,4 @@ pub record DecidedByGate (limit gate : ℕ) (payloads : List (List ℕ)) (payloa
 -- An append that failed. In its first two calls it left the payloads from before; in its last two the gate is unsure and decides.
 pub record StoppedAppend (part : Part) (limit len : ℕ) (payloads : List (List ℕ)) (payload : List ℕ) (before : Fuse) (now : DiskState) : Type 0 where
   pub early : (Passes 2 before → ⊥) → (image : Image) → MayLeave now image → IsJournal limit payloads (image part)
-  pub late : Passes 2 before → IsWithin (part_of now part).unsure (len - 1) × ((image : Image) → MayLeave now image → DecidedByGate limit (len - 1) payloads payload (image part))
+  pub late : Passes 2 before → IsUnsure now part (len - 1) × ((image : Image) → MayLeave now image → DecidedByGate limit (len - 1) payloads payload (image part))

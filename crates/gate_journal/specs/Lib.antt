@@ -1,6 +1,9 @@
 pub mod Layout
 pub mod Journal
 pub mod Payloads
+pub mod Calls
+pub mod Read
+pub mod Load
 pub mod Fresh
 pub mod Append
-pub mod Read
+pub mod Storage

@@ -1,14 +1,13 @@
 //! A journal: a header, and records behind gates. A record counts where its gate is open.
-ghost use Rattle.std.specs.Prelude.{◌≡◌, ◌⊎◌, ◌<◌, ◌≤◌, [], ℕ, true, false, length, IfOk, OnOk, IsErrOf};
-ghost use Rattle.salt_disk.specs.Disk.{part_of, IsSettled, Stays};
-ghost use Rattle.salt_disk.specs.Crash.{MayLeave, LeavesOnly, OthersStay};
-ghost use Rattle.salt_disk.specs.Fuse.{Passes, fuse_after};
-ghost use Rattle.gate_journal.specs.Layout.{least_limit, greatest_limit, first_gate, fresh_length};
-ghost use Rattle.gate_journal.specs.Journal.{IsJournal, fresh_journal, Rests, HoldsPayloads, HoldsOldOrNew};
-ghost use Rattle.gate_journal.specs.Append.{payloads_after, after_append, LeftAfter, AppendBurns, DownExactly, FullExactly};
-ghost use Rattle.salt_outside.specs.Causes.{CountsFaults};
-ghost use Rattle.gate_journal.specs.Read.{IsNoJournal, IsDamagedAt, IsAccepted, IsRefused};
-ghost use Rattle.gate_journal.specs.Fresh.{HoldsNothing};
+ghost use Rattle.std.specs.Prelude.{◌≡◌, ◌≤◌, false, length, IfOk, OnOk};
+ghost use Rattle.salt_disk.specs.Disk.{part_of, IsSettled};
+ghost use Rattle.gate_journal.specs.Layout.{least_limit, greatest_limit, first_gate};
+ghost use Rattle.gate_journal.specs.Journal.{HoldsPayloads};
+ghost use Rattle.gate_journal.specs.Calls.{KeepsBytes, KeepsOthers, SettlesUnless, LeavesAsBefore, BurnsUnless, BurnsAtOk};
+ghost use Rattle.gate_journal.specs.Load.{IsUpOn, TellsNoJournal, TellsDamage, AnswersEach};
+ghost use Rattle.gate_journal.specs.Fresh.{IsFresh, LeavesNothingIfShort, LeavesAsBeforeIfLong, TellsNotEmpty, RefusesLong, StaysIfLong};
+ghost use Rattle.gate_journal.specs.Append.{after_append, StandsOn, HoldsAfter, LeavesOldOrNew, LeavesByAnswer, LeavesAsBeforeIfDown, BurnsByAppend, DownExactly, FullExactly};
+ghost use Rattle.salt_outside.specs.Causes.{CountsFailures};
 
 use crate::read::{ReadFault, read_journal, read_synced};
 use crate::write::{body_of, store, write_header};
@@ -47,28 +46,23 @@ impl Journal {
         part: Part,
     ) -> Result<(Journal, Payloads), LoadFault>
         ensures ok { D.is_told → IfOk result (λ r. HoldsPayloads r.0 r.1.items (D.state disk.new)) }
-        ensures journal { IfOk result (λ r. (r.0.part ≡ part) × (r.0.is_down ≡ false)) }
+        ensures journal { IfOk result (λ r. IsUpOn part r.0) }
         ensures places { IfOk result (λ r. r.1.first ≡ first_gate) }
 
         // The bytes stay. After every answer but `Disk` nothing is pending on the part.
-        ensures bytes { D.is_told → (part_of (D.state disk.new) part).bytes ≡ (part_of (D.state disk.old) part).bytes }
-        ensures settled { D.is_told → (IsErrOf result LoadFault.Disk → ⊥) → IsSettled (part_of (D.state disk.new) part) }
-        ensures others { D.is_told → OthersStay part (D.state disk.old) (D.state disk.new) }
-        ensures any_moment { D.is_told → LeavesOnly D.past D.state disk.old disk.new (MayLeave (D.state disk.old)) }
+        ensures bytes { D.is_told → KeepsBytes D.Disk disk.old disk.new part }
+        ensures settled { D.is_told → SettlesUnless LoadFault.Disk result (D.state disk.new) part }
+        ensures others { D.is_told → KeepsOthers D.Disk disk.old disk.new part }
+        ensures any_moment { D.is_told → LeavesAsBefore D.Disk disk.old disk.new }
         // One changing call passes, but where the answer is `Disk`.
-        ensures passed { D.is_told → (IsErrOf result LoadFault.Disk → ⊥) → Passes 1 (D.fuse disk.old) × (D.fuse disk.new ≡ fuse_after 1 (D.fuse disk.old)) }
-        ensures not_passed { D.is_told → IsErrOf result LoadFault.Disk → Passes 1 (D.fuse disk.old) → ⊥ }
+        ensures fuse { D.is_told → BurnsUnless 1 D.fuse LoadFault.Disk disk.old disk.new result }
 
         // The causes.
-        ensures not_a_journal { D.is_told → IsErrOf result LoadFault.NotAJournal → IsNoJournal (part_of (D.state disk.old) part).bytes }
-        ensures damaged { (p : _) (at : ℕ) → IsErrOf result (LoadFault.Damaged p at)
-            → (p ≡ part) × (D.is_told → IsDamagedAt at (part_of (D.state disk.old) part).bytes) }
+        ensures not_a_journal { D.is_told → TellsNoJournal (D.state disk.old) part result }
+        ensures damaged { TellsDamage D.Disk disk.old part result }
         // Each of the two comes exactly there, and a journal is always found.
-        ensures accepts { D.is_told → (limit : ℕ) (payloads : _) → IsJournal limit payloads (part_of (D.state disk.old) part).bytes
-            → IsAccepted result × IfOk result (λ r. (r.0.limit ≡ limit) × (r.1.items ≡ payloads)) }
-        ensures refuses { D.is_told → IsNoJournal (part_of (D.state disk.old) part).bytes → IsRefused LoadFault.NotAJournal result }
-        ensures refuses_damaged { D.is_told → (at : ℕ) → IsDamagedAt at (part_of (D.state disk.old) part).bytes → IsRefused (LoadFault.Damaged part at) result }
-        ensures faults { CountsFaults (IsErrOf result LoadFault.Disk) (D.faults disk.old) (D.faults disk.new) }
+        ensures complete { D.is_told → AnswersEach (D.state disk.old) part result }
+        ensures faults { CountsFailures D.faults LoadFault.Disk disk.old disk.new result }
     {
         let bytes = match read_synced(alloc, disk, part) {
             Ok(bytes) => bytes,
@@ -99,29 +93,22 @@ impl Journal {
         requires least { least_limit ≤ limit }
         requires greatest { limit ≤ greatest_limit }
         requires settled { D.is_told → IsSettled (part_of (D.state disk.old) part) }
-        ensures ok { D.is_told → OnOk result (Rests limit fresh_length [] (part_of (D.state disk.new) part)) }
-        ensures bytes { D.is_told → OnOk result ((part_of (D.state disk.new) part).bytes ≡ fresh_journal limit) }
-        ensures length { D.is_told → OnOk result (length (part_of (D.state disk.new) part).bytes ≡ fresh_length) }
-        ensures others { D.is_told → OthersStay part (D.state disk.old) (D.state disk.new) }
+        ensures ok { D.is_told → OnOk result (IsFresh limit (part_of (D.state disk.new) part)) }
+        ensures others { D.is_told → KeepsOthers D.Disk disk.old disk.new part }
 
-        // A crash at any moment leaves no journal that loads, or an empty one, or where the part is not empty what it could leave before.
-        ensures any_moment { D.is_told → length (part_of (D.state disk.old) part).bytes ≤ fresh_length
-            → LeavesOnly D.past D.state disk.old disk.new (HoldsNothing part (D.state disk.old)) }
-        ensures full_moment { D.is_told → fresh_length < length (part_of (D.state disk.old) part).bytes
-            → LeavesOnly D.past D.state disk.old disk.new (MayLeave (D.state disk.old)) }
+        // A crash at any moment leaves no journal that loads, or an empty one. Where the part is longer than such a one,
+        // it leaves what it could leave before.
+        ensures any_moment { D.is_told → LeavesNothingIfShort D.Disk disk.old disk.new part }
+        ensures long_moment { D.is_told → LeavesAsBeforeIfLong D.Disk disk.old disk.new part }
 
         // It makes four changing calls.
-        ensures passed { D.is_told → OnOk result (Passes 4 (D.fuse disk.old) × (D.fuse disk.new ≡ fuse_after 4 (D.fuse disk.old))) }
-        ensures not_passed { D.is_told → IsErrOf result CreateFault.Disk → Passes 4 (D.fuse disk.old) → ⊥ }
+        ensures fuse { D.is_told → BurnsAtOk 4 D.fuse CreateFault.Disk disk.old disk.new result }
 
         // The causes.
-        ensures not_empty { (n : ℕ) → IsErrOf result (CreateFault.NotEmpty n)
-            → (fresh_length < n) × (disk.new ≡ disk.old) × (D.is_told → n ≡ length (part_of (D.state disk.old) part).bytes) }
-        ensures full { D.is_told → fresh_length < length (part_of (D.state disk.old) part).bytes
-            → IsErrOf result (CreateFault.NotEmpty (length (part_of (D.state disk.old) part).bytes)) ⊎ IsErrOf result CreateFault.Disk }
-        ensures untouched { D.is_told → fresh_length < length (part_of (D.state disk.old) part).bytes
-            → Stays (D.state disk.old) (D.state disk.new) (D.past disk.old) (D.past disk.new) }
-        ensures faults { CountsFaults (IsErrOf result CreateFault.Disk) (D.faults disk.old) (D.faults disk.new) }
+        ensures not_empty { TellsNotEmpty D.Disk disk.old disk.new part result }
+        ensures complete { D.is_told → RefusesLong (D.state disk.old) part result }
+        ensures same { D.is_told → StaysIfLong D.Disk disk.old disk.new part }
+        ensures faults { CountsFailures D.faults CreateFault.Disk disk.old disk.new result }
     {
         let len = match disk.len(part) {
             Ok(len) => len,
@@ -148,24 +135,22 @@ impl Journal {
         disk: &mut D,
         payload: &[u8],
     ) -> Result<(), AppendFault>
-        requires { D.is_told → self.old.is_down ≡ false → (payloads : _) × HoldsPayloads self.old payloads (D.state disk.old) }
+        requires { D.is_told → self.old.is_down ≡ false → StandsOn self.old (D.state disk.old) }
 
-        // The new payload stands at the end after Ok, and the old ones stand after every other answer but `Disk`.
-        ensures held { D.is_told → (IsErrOf result AppendFault.Disk → ⊥) → (payloads : _) → HoldsPayloads self.old payloads (D.state disk.old)
-            → HoldsPayloads self.new (payloads_after result payloads payload.now) (D.state disk.new) }
-        ensures others { D.is_told → OthersStay self.old.part (D.state disk.old) (D.state disk.new) }
+        // Over a disk that tells what it holds: the new payload stands at the end after Ok, and the old ones stand after
+        // every other answer but `Disk`.
+        ensures held { HoldsAfter D.Disk disk.old disk.new self.old self.new payload.now result }
+        ensures others { D.is_told → KeepsOthers D.Disk disk.old disk.new self.old.part }
 
         // A crash at any moment of the call leaves the payloads from before it, with the new one or without.
-        ensures any_moment { D.is_told → self.old.is_down ≡ false → (payloads : _) → HoldsPayloads self.old payloads (D.state disk.old)
-            → LeavesOnly D.past D.state disk.old disk.new (HoldsOldOrNew self.old.part self.old.limit payloads payload.now (D.state disk.old)) }
+        ensures any_moment { LeavesOldOrNew D.Disk disk.old disk.new self.old payload.now }
         // Once it has answered, the answer says which.
-        ensures left { D.is_told → self.old.is_down ≡ false → (payloads : _) → HoldsPayloads self.old payloads (D.state disk.old)
-            → (image : _) → MayLeave (D.state disk.new) image → LeftAfter result self.old.limit payloads payload.now (image self.old.part) }
+        ensures left { LeavesByAnswer D.Disk disk.old disk.new self.old payload.now result }
         // Where the journal is down, a crash leaves what it could leave before.
-        ensures down_moment { D.is_told → self.old.is_down ≡ true → LeavesOnly D.past D.state disk.old disk.new (MayLeave (D.state disk.old)) }
+        ensures down_moment { LeavesAsBeforeIfDown D.Disk disk.old disk.new self.old }
 
         // It makes four changing calls. A disk that tells which calls fail tells what an append that failed has left.
-        ensures fuse { D.is_told → AppendBurns self.old payload.now (D.fuse disk.old) (D.fuse disk.new) (D.state disk.old) (D.state disk.new) result }
+        ensures fuse { BurnsByAppend D.Disk disk.old disk.new self.old payload.now result }
 
         // The journal's own state, by the answer.
         ensures journal { self.new ≡ after_append self.old (length payload.now) result }
@@ -173,7 +158,7 @@ impl Journal {
         // The causes, in their order.
         ensures down { DownExactly self.old disk.old disk.new result }
         ensures full { FullExactly self.old (length payload.now) disk.old disk.new result }
-        ensures faults { CountsFaults (IsErrOf result AppendFault.Disk) (D.faults disk.old) (D.faults disk.new) }
+        ensures faults { CountsFailures D.faults AppendFault.Disk disk.old disk.new result }
     {
         if self.down {
             return Err(AppendFault::Down);

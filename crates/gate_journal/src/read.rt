@@ -1,14 +1,12 @@
 //! Reads the bytes of a part, in one pass.
-ghost use Rattle.std.specs.Prelude.{◌≡◌, ◌≢◌, ◌⊎◌, ◌<◌, ◌≤◌, ◌+◌, ◌-◌, ◌^◌, [], ◌∷◌, ◌++◌, List, ℕ, length, take, drop, MatchOption, IfOk, OnOk, IsErrOf};
+ghost use Rattle.std.specs.Prelude.{◌≡◌, ℕ, MatchOption, IfOk, IsErrOf};
 ghost use Rattle.gate_journal.specs.declared.read.ReadFault.TheVariants.{NoMemory};
-ghost use Rattle.salt_disk.specs.Disk.{part_of, IsSettled, Stays};
-ghost use Rattle.salt_disk.specs.Crash.{LeavesOnly, MayLeave, OthersStay};
-ghost use Rattle.salt_outside.specs.Causes.{CountsFaults};
-ghost use Rattle.salt_disk.specs.Fuse.{Passes, fuse_after, Lasts};
-ghost use Rattle.byteorder.specs.Endian.{big_bytes};
-ghost use Rattle.gate_journal.specs.Layout.{least_limit, greatest_limit, first_gate, fresh_length, record_overhead};
-ghost use Rattle.gate_journal.specs.Journal.{IsJournal, records, header, journal_length};
-ghost use Rattle.gate_journal.specs.Read.{IsNoJournal, IsBroken, IsDamagedAt};
+ghost use Rattle.salt_disk.specs.Disk.{Stays};
+ghost use Rattle.salt_outside.specs.Causes.{CountsFailures};
+ghost use Rattle.salt_disk.specs.Fuse.{Lasts};
+ghost use Rattle.gate_journal.specs.Calls.{KeepsBytes, KeepsOthers, SettlesUnless, LeavesAsBefore, BurnsUnless};
+ghost use Rattle.gate_journal.specs.Storage.{ReadsWhole, HasHeader, ReadsRecord, ReadsAs};
+ghost use Rattle.gate_journal.specs.Read.{IsNoJournal, IsDamagedAt};
 
 use crate::{
     FIRST_GATE, GREATEST_LIMIT, HEADER_BYTES, LEAST_LIMIT, NAME, OPEN_GATE, Payload, Payloads,
@@ -34,8 +32,7 @@ impl From<AllocError> for ReadFault {
 
 // The limit in the header, where there is one and a gate.
 fn read_header(bytes: &[u8]) -> Option<u64>
-    ensures { MatchOption result (IsNoJournal bytes.now) (λ limit.
-        (bytes.now ≡ header limit ++ drop first_gate bytes.now) × (fresh_length ≤ length bytes.now) × (least_limit ≤ limit) × (limit ≤ greatest_limit)) }
+    ensures { MatchOption result (IsNoJournal bytes.now) (λ limit. HasHeader bytes.now limit) }
 {
     if bytes.len() <= HEADER_BYTES {
         return None;
@@ -58,8 +55,7 @@ fn read_header(bytes: &[u8]) -> Option<u64>
 
 // The payload behind an open gate, and what stands from the next gate on.
 fn read_record(rest: &[u8], room: u64) -> Option<(&[u8], &[u8])>
-    ensures { MatchOption result (IsBroken room rest.now) (λ r.
-        (rest.now ≡ (big_bytes 4 (length r.0.now) ++ r.0.now) ++ r.1.now) × (1 ≤ length r.1.now) × (record_overhead + 1 + length r.0.now ≤ room)) }
+    ensures { ReadsRecord room rest.now result }
 {
     let (length, rest) = rest.split_first_chunk::<4>()?;
     let length = u32::from_be_bytes(*length) as usize;
@@ -71,7 +67,7 @@ fn read_record(rest: &[u8], room: u64) -> Option<(&[u8], &[u8])>
 
 // The limit in the header, the payloads behind it, and the length of the journal.
 pub fn read_journal(alloc: Global, bytes: &[u8]) -> Result<(u64, Payloads, u64), ReadFault>
-    ensures ok { IfOk result (λ r. IsJournal r.0 r.1.items bytes.now × (r.2 ≡ journal_length r.1.items) × (r.1.first ≡ first_gate)) }
+    ensures ok { IfOk result (λ r. ReadsAs bytes.now r.0 r.1 r.2) }
     ensures not_a_journal { IsErrOf result ReadFault.NotAJournal → IsNoJournal bytes.now }
     ensures damaged { (at : ℕ) → IsErrOf result (ReadFault.Damaged at) → IsDamagedAt at bytes.now }
 {
@@ -94,14 +90,13 @@ pub fn read_journal(alloc: Global, bytes: &[u8]) -> Result<(u64, Payloads, u64),
 
 // Syncs a part, and reads it.
 pub fn read_synced<D: Disk>(alloc: Global, disk: &mut D, part: Part) -> Result<Vec<u8>, DiskFault>
-    ensures ok { D.is_told → IfOk result (λ bytes. bytes.items ≡ (part_of (D.state disk.old) part).bytes) }
-    ensures synced { D.is_told → (IsErrOf result DiskFault.Failed → ⊥) → IsSettled (part_of (D.state disk.new) part) }
-    ensures same { D.is_told → (part_of (D.state disk.new) part).bytes ≡ (part_of (D.state disk.old) part).bytes }
-    ensures others { D.is_told → OthersStay part (D.state disk.old) (D.state disk.new) }
-    ensures any_moment { D.is_told → LeavesOnly D.past D.state disk.old disk.new (MayLeave (D.state disk.old)) }
-    ensures passed { D.is_told → (IsErrOf result DiskFault.Failed → ⊥) → Passes 1 (D.fuse disk.old) × (D.fuse disk.new ≡ fuse_after 1 (D.fuse disk.old)) }
-    ensures not_passed { D.is_told → IsErrOf result DiskFault.Failed → Passes 1 (D.fuse disk.old) → ⊥ }
-    ensures faults { CountsFaults (IsErrOf result DiskFault.Failed) (D.faults disk.old) (D.faults disk.new) }
+    ensures ok { D.is_told → ReadsWhole (D.state disk.old) part result }
+    ensures settled { D.is_told → SettlesUnless DiskFault.Failed result (D.state disk.new) part }
+    ensures same { D.is_told → KeepsBytes D.Disk disk.old disk.new part }
+    ensures others { D.is_told → KeepsOthers D.Disk disk.old disk.new part }
+    ensures any_moment { D.is_told → LeavesAsBefore D.Disk disk.old disk.new }
+    ensures fuse { D.is_told → BurnsUnless 1 D.fuse DiskFault.Failed disk.old disk.new result }
+    ensures faults { CountsFailures D.faults DiskFault.Failed disk.old disk.new result }
 {
     disk.sync(part)?;
     read_part(alloc, disk, part)
@@ -109,10 +104,10 @@ pub fn read_synced<D: Disk>(alloc: Global, disk: &mut D, part: Part) -> Result<V
 
 // All the bytes of a part.
 fn read_part<D: Disk>(alloc: Global, disk: &mut D, part: Part) -> Result<Vec<u8>, DiskFault>
-    ensures ok { D.is_told → IfOk result (λ bytes. bytes.items ≡ (part_of (D.state disk.old) part).bytes) }
-    ensures same { D.is_told → Stays (D.state disk.old) (D.state disk.new) (D.past disk.old) (D.past disk.new) }
+    ensures ok { D.is_told → ReadsWhole (D.state disk.old) part result }
+    ensures same { D.is_told → Stays D.past D.state disk.old disk.new }
     ensures fuse { D.is_told → Lasts (D.fuse disk.old) (D.fuse disk.new) result }
-    ensures faults { CountsFaults (IsErrOf result DiskFault.Failed) (D.faults disk.old) (D.faults disk.new) }
+    ensures faults { CountsFailures D.faults DiskFault.Failed disk.old disk.new result }
 {
     let len = disk.len(part)?;
     let mut bytes = vec![in alloc; 0; len as usize]?;

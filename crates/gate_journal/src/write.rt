@@ -1,13 +1,14 @@
 //! Writes a header, and a record.
-ghost use Rattle.std.specs.Prelude.{◌≡◌, ◌<◌, ◌≤◌, ◌+◌, ◌^◌, ◌∷◌, ◌++◌, [], List, ℕ, length, drop, IfOk, OnOk, IsErrOf};
+ghost use Rattle.std.specs.Prelude.{◌≡◌, ◌<◌, ◌≤◌, ◌^◌, ◌∷◌, ◌++◌, [], length, drop, IfOk, OnOk};
 ghost use Rattle.salt_disk.specs.Disk.{part_of, IsSettled};
-ghost use Rattle.salt_disk.specs.Crash.{LeavesOnly, OthersStay};
-ghost use Rattle.salt_outside.specs.Causes.{CountsFaults};
+ghost use Rattle.salt_outside.specs.Causes.{CountsFailures};
 ghost use Rattle.salt_disk.specs.Fuse.{Burns};
 ghost use Rattle.byteorder.specs.Endian.{big_bytes};
-ghost use Rattle.gate_journal.specs.Layout.{least_limit, greatest_limit, fresh_length, record_overhead, closed_gate};
-ghost use Rattle.gate_journal.specs.Journal.{Rests, IsNext, HoldsOldOrNew, StoppedAppend, header, fresh_journal, record_of, tail_of};
-ghost use Rattle.gate_journal.specs.Fresh.{HoldsNothing};
+ghost use Rattle.gate_journal.specs.Layout.{least_limit, greatest_limit, fresh_length, closed_gate};
+ghost use Rattle.gate_journal.specs.Journal.{header, record_of, tail_of};
+ghost use Rattle.gate_journal.specs.Calls.{KeepsOthers};
+ghost use Rattle.gate_journal.specs.Fresh.{IsFresh, LeavesNothing};
+ghost use Rattle.gate_journal.specs.Storage.{HasJournal, AddsNext, RestsAfterNoMemory, LeavesNext, StopsNext};
 
 use crate::{CLOSED_GATE, HEADER_BYTES, NAME, OPEN_GATE, RECORD_OVERHEAD};
 use byteorder::{BigEndian, ByteOrder};
@@ -64,18 +65,14 @@ pub fn body_of(alloc: Global, payload: &[u8]) -> Result<Vec<u8>, AllocError>
 pub fn store<D: Disk>(disk: &mut D, part: Part, len: u64, body: &[u8]) -> Result<(), DiskFault>
     requires begun { fresh_length ≤ len }
     requires some { 0 < length body.now }
-    requires rests { D.is_told → (limit : ℕ) × ((payloads : _) × Rests limit len payloads (part_of (D.state disk.old) part)) }
-    ensures ok { D.is_told → OnOk result ((limit : ℕ) (payloads : _) (payload : List ℕ) → IsNext limit len payloads payload body.now (part_of (D.state disk.old) part)
-        → Rests limit (len + record_overhead + length payload) (payloads ++ payload ∷ []) (part_of (D.state disk.new) part)) }
-    ensures memory { D.is_told → IsErrOf result DiskFault.NoMemory → (limit : ℕ) (payloads : _) → Rests limit len payloads (part_of (D.state disk.old) part)
-        → Rests limit len payloads (part_of (D.state disk.new) part) }
-    ensures any_moment { D.is_told → (limit : ℕ) (payloads : _) (payload : List ℕ) → IsNext limit len payloads payload body.now (part_of (D.state disk.old) part)
-        → LeavesOnly D.past D.state disk.old disk.new (HoldsOldOrNew part limit payloads payload (D.state disk.old)) }
-    ensures stopped { D.is_told → IsErrOf result DiskFault.Failed → (limit : ℕ) (payloads : _) (payload : List ℕ) → IsNext limit len payloads payload body.now (part_of (D.state disk.old) part)
-        → StoppedAppend part limit len payloads payload (D.fuse disk.old) (D.state disk.new) }
+    requires rests { D.is_told → HasJournal len (part_of (D.state disk.old) part) }
+    ensures ok { D.is_told → OnOk result (AddsNext D.Disk disk.old disk.new part len body.now) }
+    ensures memory { D.is_told → RestsAfterNoMemory D.Disk disk.old disk.new part len result }
+    ensures any_moment { D.is_told → LeavesNext D.Disk disk.old disk.new part len body.now }
+    ensures failed { D.is_told → StopsNext D.Disk disk.old disk.new part len body.now result }
     ensures fuse { D.is_told → Burns 4 (D.fuse disk.old) (D.fuse disk.new) result }
-    ensures others { D.is_told → OthersStay part (D.state disk.old) (D.state disk.new) }
-    ensures faults { CountsFaults (IsErrOf result DiskFault.Failed) (D.faults disk.old) (D.faults disk.new) }
+    ensures others { D.is_told → KeepsOthers D.Disk disk.old disk.new part }
+    ensures faults { CountsFailures D.faults DiskFault.Failed disk.old disk.new result }
 {
     write_through(disk, part, len, body)?;
     write_through(disk, part, len - 1, &[OPEN_GATE])
@@ -87,12 +84,11 @@ pub fn write_header<D: Disk>(disk: &mut D, part: Part, limit: u64) -> Result<(),
     requires greatest { limit ≤ greatest_limit }
     requires settled { D.is_told → IsSettled (part_of (D.state disk.old) part) }
     requires short { D.is_told → length (part_of (D.state disk.old) part).bytes ≤ fresh_length }
-    ensures ok { D.is_told → OnOk result (Rests limit fresh_length [] (part_of (D.state disk.new) part)) }
-    ensures bytes { D.is_told → OnOk result ((part_of (D.state disk.new) part).bytes ≡ fresh_journal limit) }
-    ensures others { D.is_told → OthersStay part (D.state disk.old) (D.state disk.new) }
-    ensures any_moment { D.is_told → LeavesOnly D.past D.state disk.old disk.new (HoldsNothing part (D.state disk.old)) }
+    ensures ok { D.is_told → OnOk result (IsFresh limit (part_of (D.state disk.new) part)) }
+    ensures others { D.is_told → KeepsOthers D.Disk disk.old disk.new part }
+    ensures any_moment { D.is_told → LeavesNothing D.Disk disk.old disk.new part }
     ensures fuse { D.is_told → Burns 4 (D.fuse disk.old) (D.fuse disk.new) result }
-    ensures faults { CountsFaults (IsErrOf result DiskFault.Failed) (D.faults disk.old) (D.faults disk.new) }
+    ensures faults { CountsFailures D.faults DiskFault.Failed disk.old disk.new result }
 {
     write_through(disk, part, 0, &header_but_one(limit))?;
     write_through(disk, part, 0, &NAME[..1])

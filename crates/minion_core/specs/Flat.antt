@@ -1,5 +1,5 @@
 -- What a minion makes of a job, and the flat minion: a fold over the list of jobs that knows no tree and no message.
-use Rattle.std.specs.Prelude.{ℕ, nat_lt, ◌&&◌, ◌+◌, ◌==◌, Bool, true, false, not, filter, flat_map, map, Option, None, Some, is_none, option_map, slice_get, length, ◌-◌, List, [], ◌∷◌, ◌++◌, if◌then◌else◌}
+use Rattle.std.specs.Prelude.{◌≡◌, ℕ, nat_lt, ◌&&◌, ◌+◌, ◌==◌, Bool, true, false, not, filter, flat_map, map, Option, None, Some, is_none, option_map, slice_get, length, ◌-◌, List, [], ◌∷◌, ◌++◌, if◌then◌else◌}
 use Rattle.target_match.specs.Holds.{holds}
 use Rattle.salt_value.specs.declared.outcome.Outcome.{Outcome}
 use Rattle.salt_value.specs.declared.outcome.Row.{Row}
@@ -33,6 +33,19 @@ changed_of (c.Grains ps) held = Some (record { grains = ps; store = held.store; 
 changed_of (c.Store ps) held = Some (record { grains = held.grains; store = ps; mine = held.mine })
 changed_of (c.Mine ps) held = Some (record { grains = held.grains; store = held.store; mine = ps })
 
+-- what is held after this was recorded as changed
+abbrev pub held_with : Option Changed → Holdings → Holdings
+held_with None held = held
+held_with (Some new) held = record held { grains = new.grains; store = new.store; mine = new.mine }
+
+-- The entry of a note, where this was recorded as changed. No public contract cites it.
+abbrev pub note_entry : ℕ → Option Changed → Holdings → Note → Entry
+note_entry seq changed held note = entry_of seq (held_with changed held) note
+
+-- The entries of notes, where this was recorded as changed. No public contract cites it.
+abbrev pub note_entries : ℕ → Option Changed → Holdings → List Note → List Entry
+note_entries seq changed held notes = map (entry_of seq (held_with changed held)) notes
+
 -- the notes in order, and then the return
 abbrev pub entries_by : ℕ → Holdings → Ran → List Entry
 entries_by seq held ran = map (entry_of seq held) ran.notes ++ Return seq ran.outcome ∷ []
@@ -41,14 +54,17 @@ entries_by seq held ran = map (entry_of seq held) ran.notes ++ Return seq ran.ou
 abbrev pub done_by : ℕ → Holdings → Ran → Deed
 done_by seq held ran = Done seq (changed_of ran.change held) (entries_by seq (with_change ran.change held) ran)
 
+-- what a minion records of a job that it runs
+abbrev pub run_record : ℕ → Job → Holdings → Deed
+run_record seq job held = done_by seq held (run job.fun job.args held)
+
+-- what a minion records of a job, where it is known whether its target holds
+abbrev pub record_if : Bool → ℕ → Job → Holdings → Deed
+record_if holds seq job held = if holds then run_record seq job held else Done seq None []
+
 -- what a minion records of a job: it runs it where its target holds
 unfoldable pub job_record : ℕ → Job → List ℕ → Holdings → Deed
-job_record seq job id held = if does_hold job id held then done_by seq held (run job.fun job.args held) else Done seq None []
-
--- what is held after this was recorded as changed
-abbrev pub held_with : Option Changed → Holdings → Holdings
-held_with None held = held
-held_with (Some new) held = record held { grains = new.grains; store = new.store; mine = new.mine }
+job_record seq job id held = record_if (does_hold job id held) seq job held
 
 -- what is held after a record
 abbrev pub held_after : Holdings → Deed → Holdings
@@ -106,6 +122,13 @@ return_of seq (Return n outcome ∷ entries) = if n == seq then Some outcome els
 return_of seq (Fired event ∷ entries) = return_of seq entries
 return_of seq (Start boot ∷ entries) = return_of seq entries
 return_of seq (Mine n mine grains pillar ∷ entries) = return_of seq entries
+
+-- Of a minion with this id that begins with this: the return of a job is that of one step on what the jobs before it left, whatever comes
+-- later.
+abbrev pub GoesByStep : List ℕ → Holdings → Type 0
+GoesByStep id held = (before : List Job) (job : Job) (later : List Job)
+    → return_of (length before) (flat_up 0 id held (before ++ job ∷ later))
+    ≡ return_of (length before) (entries_in (job_record (length before) job id (flat_held 0 id held before)))
 
 -- the jids of these jobs rise strictly, from after the last one
 abbrev pub is_rising_from : ℕ → List Job → Bool

@@ -1,5 +1,5 @@
 -- What a minion records and keeps is within the limits of messages, and where there is room for a record.
-use Rattle.std.specs.Prelude.{◌<◌, ◌≤◌, ◌+◌, ◌^◌, length, Option, None, Some, All}
+use Rattle.std.specs.Prelude.{◌≡◌, ◌<◌, ◌≤◌, ◌+◌, ◌^◌, length, Option, None, Some, All}
 use Rattle.salt_value.specs.WellFormed.{ValueFits}
 use Rattle.salt_value.specs.declared.value.Value.TheVariants as v
 use Rattle.exec_functions.specs.Limits.{AreWithin}
@@ -23,6 +23,10 @@ DeedFits other = Unit {0}
 -- a record has at most two entries
 abbrev pub HasFewEntries : Deed → Type 0
 HasFewEntries deed = length (entries_in deed) ≤ 2
+
+-- A record is this one, is within the limits of messages and has at most two entries. No public contract cites it.
+abbrev pub IsSoundRecord : Deed → Deed → Type 0
+IsSoundRecord wanted deed = (deed ≡ wanted) × DeedFits deed × HasFewEntries deed
 
 -- what a minion holds is within the limits of values, and its entries are within those of messages
 pub record StateFits (s : CoreState) : Type 0 where

@@ -1,5 +1,5 @@
 //! The state of a minion.
-ghost use Rattle.std.specs.Prelude.{◌≡◌, ◌<◌, ◌≤◌, ◌+◌, ◌^◌, ◌++◌, ◌∷◌, [], ℕ, List, length, take, All, IfOk, OnOk, OnErr};
+ghost use Rattle.std.specs.Prelude.{◌≡◌, ◌<◌, ◌+◌, ◌^◌, ◌++◌, [], List, All, IfOk, OnOk, OnErr};
 ghost use Rattle.salt_wire.specs.Limits.{JobFits, EntryFits};
 ghost use Rattle.salt_wire.specs.declared.message.Entry.{Entry as Told};
 ghost use Rattle.salt_wire.specs.declared.deed.Deed.TheVariants.{Boot};
@@ -40,7 +40,7 @@ impl Model for MinionCore {
 }
 
 impl MinionCore {
-    ghost use Rattle.minion_core.specs.Core.{CoreState, core_after};
+    ghost use Rattle.minion_core.specs.Core.{CoreState, next_record, with_job, core_after};
     ghost use Rattle.minion_core.specs.Limits.{DeedFits, StateFits, HasRoom, HasFewEntries, ChangedFits};
     ghost use Rattle.minion_core.specs.Faults.{IsRunFault};
 
@@ -61,7 +61,7 @@ impl MinionCore {
     /// The record of the next job. It is within the limits of messages, and has at most two entries.
     pub fn run(&self, id: &MinionId, job: &Job) -> Result<Deed, RunFault>
         requires { JobFits job.now }
-        ensures ok { IfOk result (λ deed. deed ≡ flat.job_record self.now.jobs job.now id.now self.now.held) }
+        ensures ok { IfOk result (λ deed. deed ≡ next_record job.now id.now self.now) }
         ensures fits { IfOk result DeedFits }
         ensures few { IfOk result HasFewEntries }
         ensures fault { IsRunFault result job.now.target }
@@ -108,7 +108,7 @@ impl MinionCore {
         requires changed { ChangedFits changed.now }
         requires entries { All EntryFits entries.now }
         requires room { self.old.jobs + 1 < 2 ^ 32 }
-        ensures ok { OnOk result (self.new ≡ record { boots = self.old.boots; jobs = self.old.jobs + 1; held = flat.held_with changed.now self.old.held; log = self.old.log ++ entries.now }) }
+        ensures ok { OnOk result (self.new ≡ with_job changed.now entries.now self.old) }
         ensures err { OnErr result (self.new ≡ self.old) }
     {
         let new = copy_changed(self.alloc, changed)?;

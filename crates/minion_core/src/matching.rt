@@ -25,12 +25,7 @@ fn matcher_of(alloc: Global, target: &Target) -> Result<Matcher, RunFault>
 }
 
 /// Whether the target of a job holds for a minion, by its id and by what it holds (Salt documentation, Targeting Minions).
-pub fn does_hold(
-    alloc: Global,
-    job: &Job,
-    id: &MinionId,
-    held: &Holdings,
-) -> Result<bool, RunFault>
+pub fn does_hold(alloc: Global, job: &Job, id: &MinionId, held: &Holdings) -> Result<bool, RunFault>
     ensures ok { IfOk result (λ b. b ≡ spec.does_hold job.now id.now held.now) }
     ensures fault { IsRunFault result job.now.target }
 {

@@ -1,12 +1,11 @@
 //! The record of a job.
-ghost use Rattle.std.specs.Prelude.{◌≡◌, ◌++◌, ◌∷◌, [], ◌≤◌, ◌+◌, ◌^◌, ◌<◌, map, length, Some, None, IfOk, OnOk, if◌then◌else◌};
-ghost use Rattle.exec_functions.specs.Exec as exec;
-ghost use Rattle.exec_functions.specs.Limits.{AreWithin, IsSendable};
+ghost use Rattle.std.specs.Prelude.{◌≡◌, ◌++◌, IfOk, OnOk};
+ghost use Rattle.exec_functions.specs.Limits.{AreWithin};
 ghost use Rattle.minion_core.specs.Flat as spec;
-ghost use Rattle.minion_core.specs.Limits.{DeedFits, HasFewEntries};
+ghost use Rattle.minion_core.specs.Flat.{note_entries};
+ghost use Rattle.minion_core.specs.Limits.{DeedFits, HasFewEntries, IsSoundRecord};
 ghost use Rattle.minion_core.specs.Faults.{IsRunFault};
 ghost use Rattle.salt_wire.specs.Limits.{JobFits};
-ghost use Rattle.salt_wire.specs.declared.deed.Deed.TheVariants.{Done};
 
 use crate::RunFault;
 use crate::matching::does_hold;
@@ -67,7 +66,7 @@ fn entry_of(
     held: &Holdings,
     note: &Note,
 ) -> Result<Entry, AllocError>
-    ensures { IfOk result (λ entry. entry ≡ spec.entry_of seq (spec.held_with changed.now held.now) note.now) }
+    ensures { IfOk result (λ entry. entry ≡ spec.note_entry seq changed.now held.now note.now) }
 {
     match note {
         Note::Fired { event } => Ok(Entry::Fired {
@@ -85,16 +84,16 @@ fn entry_of(
 // The entries of the notes in order.
 fn push_notes(
     alloc: Global,
-    entries: &mut Entries,
+    out: &mut Entries,
     seq: u32,
     changed: &Option<Changed>,
     held: &Holdings,
     notes: &[Note],
 ) -> Result<(), AllocError>
-    ensures { OnOk result (entries.new ≡ entries.old ++ map (spec.entry_of seq (spec.held_with changed.now held.now)) notes.now) }
+    ensures { OnOk result (out.new ≡ out.old ++ note_entries seq changed.now held.now notes.now) }
 {
     for note in notes {
-        entries.push(entry_of(alloc, seq, changed, held, note)?)?;
+        out.push(entry_of(alloc, seq, changed, held, note)?)?;
     }
     Ok(())
 }
@@ -124,7 +123,7 @@ fn done_by(alloc: Global, seq: u32, held: &Holdings, ran: Ran) -> Result<Deed, A
 fn run_by(alloc: Global, seq: u32, job: &Job, held: &Holdings) -> Result<Deed, AllocError>
     requires job { JobFits job.now }
     requires held { AreWithin held.now }
-    ensures { IfOk result (λ deed. (deed ≡ spec.done_by seq held.now (exec.run job.now.fun job.now.args held.now)) × DeedFits deed × HasFewEntries deed) }
+    ensures { IfOk result (IsSoundRecord (spec.run_record seq job.now held.now)) }
 {
     let ran = run(alloc, &job.fun, job.args.as_slice(), held)?;
     let deed = done_by(alloc, seq, held, ran)?;
@@ -141,7 +140,7 @@ fn made(
 ) -> Result<Deed, AllocError>
     requires job { JobFits job.now }
     requires held { AreWithin held.now }
-    ensures { IfOk result (λ deed. (deed ≡ (if holds then spec.done_by seq held.now (exec.run job.now.fun job.now.args held.now) else Done seq None [])) × DeedFits deed × HasFewEntries deed) }
+    ensures { IfOk result (IsSoundRecord (spec.record_if holds seq job.now held.now)) }
 {
     if holds {
         run_by(alloc, seq, job, held)

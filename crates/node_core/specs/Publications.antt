@@ -46,9 +46,13 @@ abbrev pub tree_or_refusal : Result Target TargetFault → Result Target Publish
 tree_or_refusal (Ok tree) = Ok tree
 tree_or_refusal (Err fault) = Err (r.Target fault)
 
+-- the tree of a target's text of this kind
+abbrev pub tree_of_text : Kind → List Group → List ℕ → Result Target PublishRefusal
+tree_of_text kind groups tgt = tree_or_refusal (machine_tree kind groups tgt)
+
 -- the tree of an order's target
 abbrev pub order_tree : List Group → Order → Result Target PublishRefusal
-order_tree groups o = tree_or_refusal (machine_tree o.kind groups o.tgt)
+order_tree groups o = tree_of_text o.kind groups o.tgt
 
 -- arguments and target are within the limits of a job
 abbrev pub order_fits : List Value → Target → Bool

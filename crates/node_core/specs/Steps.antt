@@ -1,5 +1,5 @@
 -- What the parts of a publication answer, and what a node answers to a job. No public contract cites these.
-use Rattle.std.specs.Prelude.{ℕ, ◌≡◌, ◌<◌, ⊤, Bool, true, false, List, length, Result, Ok, Err, None, Some}
+use Rattle.std.specs.Prelude.{ℕ, ◌≡◌, ◌<◌, ◌++◌, ◌∷◌, [], ⊤, Bool, true, false, List, length, take, drop, Result, Ok, Err, Option, None, Some}
 use Rattle.salt_value.specs.WellFormed.{ValueFits}
 use Rattle.salt_value.specs.declared.value.Value.{Value}
 use Rattle.salt_value.specs.declared.value.Value.TheVariants as v
@@ -17,15 +17,26 @@ use Rattle.node_core.specs.declared.faults.PublishRefusal.TheVariants as r
 use Rattle.node_core.specs.declared.faults.PublishFault.{PublishFault}
 use Rattle.node_core.specs.declared.faults.PublishFault.TheVariants as f
 use Rattle.fleet_config.specs.Causes.{first_cause}
+use Rattle.salt_wire.specs.declared.message.Entry.{Entry}
 use Rattle.salt_wire.specs.declared.message.Message.{Message}
+use Rattle.salt_wire.specs.declared.message.Message.TheVariants as m
+use Rattle.salt_wire.specs.declared.deed.Deed.{Deed}
+use Rattle.salt_wire.specs.declared.deed.Deed.TheVariants.{Boot}
+use Rattle.target_tree.specs.declared.kind.Kind.{Kind}
+use Rattle.exec_functions.specs.declared.holdings.Holdings.{Holdings}
+use Rattle.fleet_config.specs.Tree.{Tree}
+use Rattle.minion_core.specs.Core.{CoreState, core_after}
+use Rattle.minion_core.specs.Flat.{job_record}
 use Rattle.minion_core.specs.Faults.{IsRunFault}
 use Rattle.minion_core.specs.declared.fault.RunFault.{RunFault}
 use Rattle.minion_core.specs.declared.fault.RunFault.TheVariants as run
 use Rattle.node_core.specs.declared.faults.TakeFault.{TakeFault}
 use Rattle.node_core.specs.declared.faults.TakeFault.TheVariants as take
+use Rattle.node_core.specs.declared.faults.Stray.{Stray}
 use Rattle.node_core.specs.declared.faults.Stray.TheVariants as stray
-use Rattle.node_core.specs.Node.{NodeState, run_tests, RunsBigPattern}
-use Rattle.node_core.specs.Publications.{order_jid}
+use Rattle.node_core.specs.Node.{NodeState, run_tests, RunsBigPattern, first_tests, with_record, job_deed, after_message, after_pub, after_up, reply_answer, pubs_from, ups_from, pending_ups}
+use Rattle.node_core.specs.Node.Answer.{Reply}
+use Rattle.node_core.specs.Publications.{Order, order, order_jid, order_job, IsPublication, IsOrderFault}
 
 -- a refusal for a text that is no target, or want of memory
 abbrev pub order_fault : TargetFault → PublishFault
@@ -76,3 +87,72 @@ IsRunAnswer (Ok x) message node = first_cause (run_tests message node) ≡ None
 IsRunAnswer (Err take.NoMemory) message node = ⊤
 IsRunAnswer (Err (take.Stray cause)) message node = first_cause (run_tests message node) ≡ Some cause
 IsRunAnswer (Err (take.TooBig leaf)) message node = RunsBigPattern message node leaf
+
+-- a minion that holds this, has booted once, and knows no counts
+abbrev pub booted_minion : Holdings → NodeState
+booted_minion held = record { minion = true; records = Boot ∷ []; held = held; known_jobs = []; known_ups = [] }
+
+-- why a message is stray before a job is looked into, if it is
+abbrev pub first_stray_of : Tree → ℕ → ℕ → Message → NodeState → Option Stray
+first_stray_of t me from message node = first_cause (first_tests t me from message node)
+
+-- why an entry from below is stray, if it is
+abbrev pub up_stray : Tree → ℕ → ℕ → List ℕ → ℕ → Entry → NodeState → Option Stray
+up_stray t me from id n entry node = first_stray_of t me from (m.Up id n entry) node
+
+-- node me took a message that passes the tests, and replied, or not
+abbrev pub Accepts : Tree → ℕ → ℕ → Message → NodeState → NodeState → Option Message → Type 0
+Accepts t me from message before after reply =
+    after_message t me from message before ≡ record { node = after; answer = reply_answer reply }
+
+-- node me took a job with this number, and replied how many it holds then
+abbrev pub AcceptsJob : Tree → ℕ → ℕ → Job → NodeState → NodeState → ℕ → Type 0
+AcceptsJob t me seq job before after have = after_pub t me seq job before ≡ record { node = after; answer = Reply (m.Have have) }
+
+-- a node took an entry of a minion with this number, and replied how many it holds then
+abbrev pub AcceptsEntry : List ℕ → ℕ → Entry → NodeState → NodeState → ℕ → Type 0
+AcceptsEntry id n entry before after have = after_up id n entry before ≡ record { node = after; answer = Reply (m.UpHave id have) }
+
+-- the node with this id after it took in a job
+abbrev pub after_job : ℕ → Job → List ℕ → NodeState → NodeState
+after_job seq job id node = with_record (job_deed seq job id node) node
+
+-- the minion with this id after it ran a job
+abbrev pub after_run : ℕ → Job → List ℕ → NodeState → NodeState
+after_run seq job id node = with_record (job_record seq job id node.held) node
+
+-- the core of the minion with this id after it ran a job
+abbrev pub core_after_run : ℕ → Job → List ℕ → CoreState → CoreState
+core_after_run seq job id core = core_after (job_record seq job id core.held) core
+
+-- the records have one more, that of a job which the minion with this id and this core ran
+abbrev pub AddsRun : ℕ → Job → List ℕ → CoreState → List Deed → List Deed → Type 0
+AddsRun seq job id core before after = after ≡ before ++ job_record seq job id core.held ∷ []
+
+-- the publications of the jobs from number known on were added to these messages, up to max messages in all
+abbrev pub AddsJobs : ℕ → ℕ → List Job → List Message → List Message → Type 0
+AddsJobs max known jobs before after = after ≡ take max (before ++ pubs_from known (drop known jobs))
+
+-- the entries of a minion from number known on were added to these messages, up to max messages in all
+abbrev pub AddsEntries : ℕ → List ℕ → ℕ → List Entry → List Message → List Message → Type 0
+AddsEntries max id known entries before after = after ≡ take max (before ++ ups_from id known (drop known entries))
+
+-- the entries of a minion that the parent is not known to hold were added to these messages, up to max messages in all
+abbrev pub AddsUps : Tree → NodeState → ℕ → ℕ → List Message → List Message → Type 0
+AddsUps t node minion max before after = after ≡ take max (before ++ pending_ups t node minion)
+
+-- an order with these arguments and this target gets this jid
+abbrev pub IsOrderJid : FleetConfig → ℕ → List Value → Target → List Job → ℕ → Type 0
+IsOrderJid fleet moment args tree jobs jid = order_jid fleet moment args tree jobs ≡ Ok jid
+
+-- the job of an order, whose target is this tree, under this jid
+abbrev pub IsJobOf : Order → Target → ℕ → Job → Type 0
+IsJobOf o tree jid job = job ≡ order_job o tree jid
+
+-- the order of a text of this kind, a function and its arguments makes this job
+abbrev pub MakesJob : FleetConfig → ℕ → Kind → List ℕ → List ℕ → List Value → List Job → Job → Type 0
+MakesJob fleet moment kind tgt fun args jobs job = IsPublication fleet moment (order kind tgt fun args) jobs job
+
+-- this fault denies that order its job
+abbrev pub Denies : FleetConfig → ℕ → Kind → List ℕ → List ℕ → List Value → List Job → PublishFault → Type 0
+Denies fleet moment kind tgt fun args jobs fault = IsOrderFault fleet moment (order kind tgt fun args) jobs fault

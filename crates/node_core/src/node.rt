@@ -5,7 +5,7 @@ ghost use Rattle.fleet_config.specs.Limits.{most_jobs};
 ghost use Rattle.fleet_config.specs.Tree as tree;
 ghost use Rattle.node_core.specs.Logs.{IsJobRecord};
 ghost use Rattle.node_core.specs.Publications.{order, Publishes, IsPublishFault};
-ghost use Rattle.node_core.specs.Steps.{IsRunBy, IsRunAnswer};
+ghost use Rattle.node_core.specs.Steps.{IsRunBy, IsRunAnswer, booted_minion, first_stray_of, up_stray, Accepts, AcceptsJob, AcceptsEntry, after_job, after_run, AddsUps};
 ghost use Rattle.minion_core.specs.Faults.{IsRunFault};
 ghost use Rattle.fleet_config.specs.Causes as causes;
 ghost use Rattle.exec_functions.specs.Limits.{AreWithin};
@@ -14,7 +14,7 @@ ghost use Rattle.salt_value.specs.WellFormed.{ValueFits};
 ghost use Rattle.salt_value.specs.declared.value.Value.TheVariants as v;
 ghost use Rattle.node_core.specs.Node.Answer.{IsStray};
 ghost use Rattle.node_core.specs.declared.faults.TakeFault.TheVariants as take;
-ghost use Rattle.node_core.specs.declared.faults.PendFault.TheVariants as pend;
+ghost use Rattle.node_core.specs.declared.faults.PendFault.TheVariants.{NotNeighbour};
 ghost use Rattle.node_core.specs.declared.faults.PublishFault.TheVariants as publish;
 ghost use Rattle.salt_wire.specs.declared.message.Message.TheVariants as m;
 
@@ -69,10 +69,9 @@ impl Model for Node {
 
 impl Node {
     ghost use Rattle.fleet_config.specs.Tree.{member};
-    ghost use Rattle.node_core.specs.Node.{NodeState, message_result, taken_in, reply_answer, after_message, after_pub, after_up, pending, pending_down, pending_up, pending_ups, first_node, with_record, IsTakeFault, runs_next, first_tests, is_neighbour, is_next, may_take, may_record, IsCounted};
-    ghost use Rattle.node_core.specs.Node.Answer.{Reply};
+    ghost use Rattle.node_core.specs.Node.{NodeState, Receives, AreApart, pending, pending_down, pending_up, first_node, with_record, IsTakeFault, runs_next, is_neighbour, may_take, may_record, IsCounted};
     ghost use Rattle.node_core.specs.Records.{jobs, log, jobs_held};
-    ghost use Rattle.minion_core.specs.Flat.{job_record, return_of};
+    ghost use Rattle.minion_core.specs.Flat.{return_of};
     ghost use Rattle.salt_wire.specs.Limits.{Within, EntryFits};
     ghost use Rattle.salt_wire.specs.declared.deed.Deed.TheVariants.{Publish, Intake, Up, Boot};
 
@@ -98,7 +97,7 @@ impl Node {
     // A minion that holds this and has booted once.
     fn booted(alloc: Global, held: Holdings) -> Result<Node, AllocError>
         requires { AreWithin held }
-        ensures { IfOk result (λ node. node ≡ record { minion = true; records = Boot ∷ []; held = held; known_jobs = []; known_ups = [] }) }
+        ensures { IfOk result (λ node. node ≡ booted_minion held) }
     {
         let mut records = Vec::new(alloc);
         records.push(Deed::Boot)?;
@@ -127,7 +126,7 @@ impl Node {
         requires within { me < length fleet.now.tree }
         requires counted { IsCounted message.now }
         requires fits { Within message.now }
-        ensures ok { IfOk result (λ reply. message_result fleet.now.tree me from message.now self.old ≡ record { node = self.new; answer = reply_answer reply }) }
+        ensures ok { IfOk result (Receives fleet.now.tree me from message.now self.old self.new) }
         ensures counted { IfOk result (λ reply. IfSome reply IsCounted) }
         ensures fits { IfOk result (λ reply. IfSome reply Within) }
         ensures err { OnErr result (self.new ≡ self.old) }
@@ -144,21 +143,21 @@ impl Node {
         &self,
         fleet: &Fleet,
         me: NodeId,
-        peer: NodeId,
+        to: NodeId,
         max: u32,
     ) -> Result<Vec<Message>, PendFault>
         requires within { me < length fleet.now.tree }
-        ensures ok { IfOk result (λ messages. messages.items ≡ take max (pending fleet.now.tree me peer self.now)) }
-        ensures counted { IfOk result (λ messages. All IsCounted messages.items) }
-        ensures fits { IfOk result (λ messages. All Within messages.items) }
-        ensures not_neighbour { IsErrOf result pend.NotNeighbour → is_neighbour fleet.now.tree me peer ≡ false }
-        ensures complete { OnOk result (is_neighbour fleet.now.tree me peer ≡ true) }
+        ensures ok { IfOk result (λ v. v.items ≡ take max (pending fleet.now.tree me to self.now)) }
+        ensures counted { IfOk result (λ v. All IsCounted v.items) }
+        ensures fits { IfOk result (λ v. All Within v.items) }
+        ensures not_neighbour { IsErrOf result NotNeighbour → AreApart fleet.now.tree me to }
+        ensures complete { OnOk result (is_neighbour fleet.now.tree me to ≡ true) }
     {
         let _ = &self.records;
-        if fleet.is_parent(me, peer) {
-            return Ok(self.pending_down(peer, max)?);
+        if fleet.is_parent(me, to) {
+            return Ok(self.pending_down(to, max)?);
         }
-        if fleet.is_parent(peer, me) {
+        if fleet.is_parent(to, me) {
             return Ok(self.pending_up(fleet, me, max)?);
         }
         Err(PendFault::NotNeighbour)
@@ -176,9 +175,15 @@ impl Node {
         fun: &Word,
         args: &[Value],
     ) -> Result<Jid, PublishFault>
-        ensures ok { IfOk result (Publishes fleet.now moment (order kind tgt.now fun.now args.now) self.old self.new) }
+        ensures ok {
+            IfOk result (Publishes fleet.now moment (order kind tgt.now fun.now args.now)
+            self.old self.new)
+        }
         ensures err { OnErr result (self.new ≡ self.old) }
-        ensures fault { IfErr result (IsPublishFault fleet.now moment (order kind tgt.now fun.now args.now) self.old) }
+        ensures fault {
+            IfErr result (IsPublishFault fleet.now moment (order kind tgt.now fun.now args.now)
+            self.old)
+        }
     {
         let jobs = self.jobs();
         let job = order_job(self.alloc, fleet, moment, kind, tgt, fun, args, jobs)?;
@@ -215,7 +220,7 @@ impl Node {
 
     // The jobs that a child is not known to hold.
     fn pending_down(&self, child: NodeId, max: u32) -> Result<Vec<Message>, AllocError>
-        ensures { IfOk result (λ messages. messages.items ≡ take max (pending_down child self.now)) }
+        ensures { IfOk result (λ v. v.items ≡ take max (pending_down child self.now)) }
     {
         let mut messages = Vec::new(self.alloc);
         let known = self.known_jobs.known(child);
@@ -226,8 +231,8 @@ impl Node {
     // The count of jobs, and the entries that the parent is not known to hold.
     fn pending_up(&self, fleet: &Fleet, me: NodeId, max: u32) -> Result<Vec<Message>, AllocError>
         requires { me < length fleet.now.tree }
-        ensures ok { IfOk result (λ messages. messages.items ≡ take max (pending_up fleet.now.tree me self.now)) }
-        ensures fits { IfOk result (λ messages. All Within messages.items) }
+        ensures ok { IfOk result (λ v. v.items ≡ take max (pending_up fleet.now.tree me self.now)) }
+        ensures fits { IfOk result (λ v. All Within v.items) }
     {
         let mut messages = Vec::new(self.alloc);
         if max == 0 {
@@ -246,19 +251,21 @@ impl Node {
         &self,
         fleet: &Fleet,
         minion: NodeId,
-        messages: &mut Vec<Message>,
+        out: &mut Vec<Message>,
         max: u32,
     ) -> Result<(), AllocError>
         requires place { minion < length fleet.now.tree }
-        requires room { length messages.old.items ≤ max }
-        requires fits { All Within messages.old.items }
-        ensures ok { OnOk result (messages.new.items ≡ take max (messages.old.items ++ pending_ups fleet.now.tree self.now minion)) }
-        ensures fits { OnOk result (All Within messages.new.items) }
+        requires room { length out.old.items ≤ max }
+        requires fits { All Within out.old.items }
+        ensures ok {
+            OnOk result (AddsUps fleet.now.tree self.now minion max out.old.items out.new.items)
+        }
+        ensures fits { OnOk result (All Within out.new.items) }
     {
         let id = fleet.id(minion);
         let _bytes = id.as_bytes();
         let known = self.known_ups.known(minion);
-        push_entries(self.alloc, messages, id, known, self.logs.entries(&id), max)?;
+        push_entries(self.alloc, out, id, known, self.logs.entries(&id), max)?;
         Ok(())
     }
 
@@ -271,7 +278,7 @@ impl Node {
         message: &Message,
     ) -> Option<Stray>
         requires { me < length fleet.now.tree }
-        ensures { result ≡ causes.first_cause (first_tests fleet.now.tree me from message.now self.now) }
+        ensures { result ≡ first_stray_of fleet.now.tree me from message.now self.now }
     {
         match message {
             Message::Pub { seq, job } => first_cause(&[
@@ -322,7 +329,7 @@ impl Node {
         n: u32,
         entry: &Entry,
     ) -> Option<Stray>
-        ensures { result ≡ causes.first_cause (first_tests fleet.now.tree me from (m.Up minion.now n entry.now) self.now) }
+        ensures { result ≡ up_stray fleet.now.tree me from minion.now n entry.now self.now }
     {
         let below = is_below(fleet, me, from, minion);
         let right_way = fleet.is_parent(me, from)
@@ -375,10 +382,10 @@ impl Node {
         message: &Message,
     ) -> Result<Option<Message>, TakeFault>
         requires within { me < length fleet.now.tree }
-        requires first { causes.first_cause (first_tests fleet.now.tree me from message.now self.old) ≡ None }
+        requires first { first_stray_of fleet.now.tree me from message.now self.old ≡ None }
         requires counted { IsCounted message.now }
         requires fits { Within message.now }
-        ensures accepted { IfOk result (λ reply. after_message fleet.now.tree me from message.now self.old ≡ record { node = self.new; answer = reply_answer reply }) }
+        ensures ok { IfOk result (Accepts fleet.now.tree me from message.now self.old self.new) }
         ensures counted { IfOk result (λ reply. IfSome reply IsCounted) }
         ensures fits { IfOk result (λ reply. IfSome reply Within) }
         ensures err { OnErr result (self.new ≡ self.old) }
@@ -426,7 +433,7 @@ impl Node {
         requires few { seq < most_jobs }
         requires fits { JobFits job.now }
         ensures run { IsRunBy (runs_next seq self.old) result job.now.target }
-        ensures accepted { IfOk result (λ have. after_pub fleet.now.tree me seq job.now self.old ≡ record { node = self.new; answer = Reply (m.Have have) }) }
+        ensures ok { IfOk result (AcceptsJob fleet.now.tree me seq job.now self.old self.new) }
         ensures err { OnErr result (self.new ≡ self.old) }
     {
         if seq == self.held {
@@ -440,7 +447,7 @@ impl Node {
         requires next { seq ≡ jobs_held self.old.records }
         requires few { jobs_held self.old.records < most_jobs }
         requires fits { JobFits job.now }
-        ensures ok { OnOk result (self.new ≡ with_record (if self.old.minion then job_record seq job.now id.now self.old.held else Intake job.now) self.old) }
+        ensures ok { OnOk result (self.new ≡ after_job seq job.now id.now self.old) }
         ensures err { OnErr result (self.new ≡ self.old) }
         ensures run { IsRunBy self.old.minion result job.now.target }
     {
@@ -457,7 +464,7 @@ impl Node {
         requires next { seq ≡ jobs_held self.old.records }
         requires few { jobs_held self.old.records < most_jobs }
         requires fits { JobFits job.now }
-        ensures ok { OnOk result (self.new ≡ with_record (job_record seq job.now id.now self.old.held) self.old) }
+        ensures ok { OnOk result (self.new ≡ after_run seq job.now id.now self.old) }
         ensures err { OnErr result (self.new ≡ self.old) }
         ensures fault { IsRunFault result job.now.target }
     {
@@ -505,7 +512,7 @@ impl Node {
         requires master { self.old.minion ≡ false }
         requires counted { n + 1 < 2 ^ 32 }
         requires fits { EntryFits entry.now }
-        ensures accepted { IfOk result (λ have. after_up minion n entry.now self.old ≡ record { node = self.new; answer = Reply (m.UpHave minion have) }) }
+        ensures ok { IfOk result (AcceptsEntry minion n entry.now self.old self.new) }
         ensures err { OnErr result (self.new ≡ self.old) }
     {
         let have = self.entries(&minion);

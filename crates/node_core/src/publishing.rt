@@ -6,10 +6,9 @@ ghost use Rattle.target_match.specs.Unread.{unread_leaf};
 ghost use Rattle.salt_value.specs.WellFormed.{ValueFits};
 ghost use Rattle.salt_value.specs.declared.value.Value.TheVariants as v;
 ghost use Rattle.salt_wire.specs.Limits.{JobFits, TreeFits, most_target_bytes};
-ghost use Rattle.node_core.specs.Publications as spec;
-ghost use Rattle.node_core.specs.Publications.{order, IsPublication, IsOrderFault, tree_or_refusal};
+ghost use Rattle.node_core.specs.Publications.{order, tree_of_text};
 ghost use Rattle.node_core.specs.Steps as step;
-ghost use Rattle.node_core.specs.Steps.{IsRefusalOf, IsPatternFault, IsJidFault, HasRoom};
+ghost use Rattle.node_core.specs.Steps.{IsRefusalOf, IsPatternFault, IsJidFault, HasRoom, IsOrderJid, IsJobOf, MakesJob, Denies};
 
 use crate::strays::last_jid;
 use crate::{PublishFault, PublishRefusal};
@@ -42,7 +41,7 @@ fn order_tree(
 ) -> Result<Boxed<Target>, PublishFault>
     ensures ok { IfOk result (λ tree. machine_tree kind groups.now tgt.now ≡ Ok tree) }
     ensures short { OnOk result (length tgt.now ≤ most_target_bytes) }
-    ensures fault { IfErr result (IsRefusalOf (tree_or_refusal (machine_tree kind groups.now tgt.now))) }
+    ensures fault { IfErr result (IsRefusalOf (tree_of_text kind groups.now tgt.now)) }
 {
     match read_target(alloc, kind, tgt, groups) {
         Ok(tree) => Ok(Boxed::new(alloc, tree)?),
@@ -74,7 +73,7 @@ fn order_jid(
     tree: &Target,
     jobs: &[Job],
 ) -> Result<Jid, PublishFault>
-    ensures ok { IfOk result (λ jid. spec.order_jid fleet.now moment args.now tree.now jobs.now ≡ Ok jid) }
+    ensures ok { IfOk result (IsOrderJid fleet.now moment args.now tree.now jobs.now) }
     ensures room { OnOk result (HasRoom args.now tree.now jobs.now) }
     ensures fault { IfErr result (IsJidFault fleet.now moment args.now tree.now jobs.now) }
 {
@@ -111,7 +110,7 @@ fn make_job(
     requires short { length tgt.now ≤ most_target_bytes }
     requires args { ValueFits (v.List args.now) }
     requires tree { TreeFits tree }
-    ensures ok { IfOk result (λ job. job ≡ spec.order_job (order kind tgt.now fun.now args.now) tree jid) }
+    ensures ok { IfOk result (IsJobOf (order kind tgt.now fun.now args.now) tree jid) }
     ensures fits { IfOk result JobFits }
 {
     let tgt = Text::new(String::from_str(alloc, tgt)?);
@@ -139,10 +138,10 @@ pub fn order_job(
     args: &[Value],
     jobs: &[Job],
 ) -> Result<Job, PublishFault>
-    ensures ok { IfOk result (IsPublication fleet.now moment (order kind tgt.now fun.now args.now) jobs.now) }
+    ensures ok { IfOk result (MakesJob fleet.now moment kind tgt.now fun.now args.now jobs.now) }
     ensures fits { IfOk result JobFits }
     ensures few { OnOk result (length jobs.now < most_jobs) }
-    ensures fault { IfErr result (IsOrderFault fleet.now moment (order kind tgt.now fun.now args.now) jobs.now) }
+    ensures fault { IfErr result (Denies fleet.now moment kind tgt.now fun.now args.now jobs.now) }
 {
     let tree = order_tree(alloc, fleet.groups(), kind, tgt)?;
     let jid = order_jid(alloc, fleet, moment, args, tree.get(), jobs)?;

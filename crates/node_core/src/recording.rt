@@ -1,10 +1,11 @@
 //! A record more, with what is kept beside the records.
-ghost use Rattle.std.specs.Prelude.{◌≡◌, ◌≢◌, ◌++◌, ◌∷◌, [], ◌<◌, ◌≤◌, ◌+◌, ◌^◌, ℕ, List, length, bytes_eq, OnOk, OnErr, if◌then◌else◌};
+ghost use Rattle.std.specs.Prelude.{◌≡◌, ◌++◌, ◌∷◌, [], ◌<◌, ◌+◌, ◌^◌, OnOk, OnErr};
 ghost use Rattle.minion_core.specs.Core.{core_after};
 ghost use Rattle.minion_core.specs.Flat as flat;
 ghost use Rattle.minion_core.specs.Limits.{DeedFits, HasFewEntries, HasRoom};
 ghost use Rattle.minion_core.specs.Faults.{IsRunFault};
-ghost use Rattle.node_core.specs.Logs.{entries_at};
+ghost use Rattle.node_core.specs.Logs.{HasEntryMore, KeepsLogs};
+ghost use Rattle.node_core.specs.Steps.{AddsRun, core_after_run};
 ghost use Rattle.node_core.specs.declared.logs.Logs.TheVariants.{Below};
 ghost use Rattle.salt_wire.specs.Limits.{JobFits};
 ghost use Rattle.salt_wire.specs.declared.deed.Deed.TheVariants.{Up};
@@ -55,22 +56,22 @@ fn push_record(
 /// A record of an entry from below and the entry in its minion's log more, or neither.
 pub fn push_up(
     alloc: Global,
-    records: &mut Vec<Deed>,
+    deeds: &mut Vec<Deed>,
     map: &mut IndexMap<MinionId, Entries>,
     minion: MinionId,
     entry: &Entry,
 ) -> Result<(), AllocError>
-    ensures records { OnOk result (records.new.items ≡ records.old.items ++ Up minion entry.now ∷ []) }
-    ensures logs { OnOk result ((id : List ℕ) → entries_at (Below map.new) id ≡ (if bytes_eq minion id then entries_at (Below map.old) id ++ entry.now ∷ [] else entries_at (Below map.old) id)) }
-    ensures kept_records { OnErr result (records.new.items ≡ records.old.items) }
-    ensures kept_logs { OnErr result ((id : List ℕ) → entries_at (Below map.new) id ≡ entries_at (Below map.old) id) }
+    ensures records { OnOk result (deeds.new.items ≡ deeds.old.items ++ Up minion entry.now ∷ []) }
+    ensures logs { OnOk result (HasEntryMore (Below map.old) (Below map.new) minion entry.now) }
+    ensures kept_records { OnErr result (deeds.new.items ≡ deeds.old.items) }
+    ensures kept_logs { OnErr result (KeepsLogs (Below map.old) (Below map.new)) }
 {
-    let count = records.len();
-    push_record(alloc, records, minion, entry)?;
+    let count = deeds.len();
+    push_record(alloc, deeds, minion, entry)?;
     match push_below(alloc, map, minion, entry) {
         Ok(()) => Ok(()),
         Err(fault) => {
-            records.truncate(count);
+            deeds.truncate(count);
             Err(fault)
         }
     }
@@ -100,7 +101,7 @@ fn push_done(records: &mut Vec<Deed>, core: &mut MinionCore, deed: Deed) -> Resu
 #[tactic(auto, using(crate::proofs::Index::room_done))]
 pub fn push_run(
     alloc: Global,
-    records: &mut Vec<Deed>,
+    deeds: &mut Vec<Deed>,
     core: &mut MinionCore,
     seq: u32,
     id: &MinionId,
@@ -108,14 +109,14 @@ pub fn push_run(
 ) -> Result<(), RunFault>
     requires fits { JobFits job.now }
     requires room { core.old.jobs + 1 < 2 ^ 32 }
-    ensures records { OnOk result (records.new.items ≡ records.old.items ++ flat.job_record seq job.now id.now core.old.held ∷ []) }
-    ensures core { OnOk result (core.new ≡ core_after (flat.job_record seq job.now id.now core.old.held) core.old) }
+    ensures ok { OnOk result (AddsRun seq job.now id.now core.old deeds.old.items deeds.new.items) }
+    ensures core { OnOk result (core.new ≡ core_after_run seq job.now id.now core.old) }
     ensures few { OnOk result (HasFewEntries (flat.job_record seq job.now id.now core.old.held)) }
     ensures fits { OnOk result (DeedFits (flat.job_record seq job.now id.now core.old.held)) }
-    ensures kept_records { OnErr result (records.new.items ≡ records.old.items) }
+    ensures kept_records { OnErr result (deeds.new.items ≡ deeds.old.items) }
     ensures kept_core { OnErr result (core.new ≡ core.old) }
     ensures fault { IsRunFault result job.now.target }
 {
     let deed = job_record(alloc, seq, job, id, core.held())?;
-    Ok(push_done(records, core, deed)?)
+    Ok(push_done(deeds, core, deed)?)
 }

@@ -1,6 +1,6 @@
 //! Messages for a neighbour.
-ghost use Rattle.std.specs.Prelude.{◌≡◌, ◌++◌, ◌≤◌, ◌<◌, ◌^◌, take, drop, length, OnOk};
-ghost use Rattle.node_core.specs.Node as node;
+ghost use Rattle.std.specs.Prelude.{◌≤◌, ◌<◌, ◌^◌, length, OnOk};
+ghost use Rattle.node_core.specs.Steps.{AddsJobs, AddsEntries};
 
 use salt_value::MinionId;
 use salt_wire::{Entry, Job, Message};
@@ -9,20 +9,20 @@ use std::alloc::{AllocError, Global};
 /// The publications of the jobs from a number on, as far as there is room.
 pub fn push_pubs(
     alloc: Global,
-    messages: &mut Vec<Message>,
+    out: &mut Vec<Message>,
     known: u32,
     jobs: &[Job],
     max: u32,
 ) -> Result<(), AllocError>
     requires few { length jobs.now < 2 ^ 32 }
-    requires room { length messages.old.items ≤ max }
-    ensures { OnOk result (messages.new.items ≡ take max (messages.old.items ++ node.pubs_from known (drop known jobs.now))) }
+    requires room { length out.old.items ≤ max }
+    ensures { OnOk result (AddsJobs max known jobs.now out.old.items out.new.items) }
 {
     for seq in known as usize..jobs.len() {
-        if messages.len() >= max as usize {
+        if out.len() >= max as usize {
             return Ok(());
         }
-        messages.push(Message::Pub {
+        out.push(Message::Pub {
             seq: seq as u32,
             job: jobs[seq].copy(alloc)?,
         })?;
@@ -33,21 +33,21 @@ pub fn push_pubs(
 /// The entries of a minion from a number on, as far as there is room.
 pub fn push_entries(
     alloc: Global,
-    messages: &mut Vec<Message>,
+    out: &mut Vec<Message>,
     minion: MinionId,
     known: u32,
     entries: &[Entry],
     max: u32,
 ) -> Result<(), AllocError>
     requires few { length entries.now < 2 ^ 32 }
-    requires room { length messages.old.items ≤ max }
-    ensures { OnOk result (messages.new.items ≡ take max (messages.old.items ++ node.ups_from minion known (drop known entries.now))) }
+    requires room { length out.old.items ≤ max }
+    ensures { OnOk result (AddsEntries max minion known entries.now out.old.items out.new.items) }
 {
     for n in known as usize..entries.len() {
-        if messages.len() >= max as usize {
+        if out.len() >= max as usize {
             return Ok(());
         }
-        messages.push(Message::Up {
+        out.push(Message::Up {
             minion,
             n: n as u32,
             entry: entries[n].copy(alloc)?,

@@ -1,12 +1,11 @@
 //! What is tested of a message, of a job and of an entry.
-ghost use Rattle.std.specs.Prelude.{◌≡◌, ◌∷◌, [], false, true};
+ghost use Rattle.std.specs.Prelude.{◌≡◌};
 ghost use Rattle.std.specs.Option.{option_copied};
 ghost use Rattle.fleet_config.specs.Causes.{first_cause};
 ghost use Rattle.fleet_config.specs.Tree as tree;
 ghost use Rattle.minion_core.specs.Flat as flat;
 ghost use Rattle.node_core.specs.Node as node;
 ghost use Rattle.node_core.specs.Steps as step;
-ghost use Rattle.node_core.specs.declared.faults.Stray.TheVariants as s;
 
 use crate::{Stray, TakeFault};
 use fleet_config::Fleet;
@@ -28,7 +27,7 @@ pub fn first_cause(tests: &[(bool, Stray)]) -> Option<Stray>
 
 /// Why a message of a kind that no node takes is not taken.
 pub fn stray_other(fleet: &Fleet, me: NodeId, from: NodeId) -> Option<Stray>
-    ensures { result ≡ first_cause ((node.is_neighbour fleet.now.tree me from, s.NotNeighbour) ∷ (false, s.WrongWay) ∷ []) }
+    ensures { result ≡ first_cause (node.other_tests fleet.now.tree me from) }
 {
     first_cause(&[
         (is_neighbour(fleet, me, from), Stray::NotNeighbour),

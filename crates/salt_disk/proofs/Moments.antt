@@ -1,7 +1,7 @@
 -- How a run of disk calls goes on.
 use Rattle.std.proofs.Common.{◌⊎◌, inl, inr, ⊎_elim, ℕ, ◌≤◌, List, [], ◌∷◌, ◌++◌, length, drop, refl, sym, ◌∙◌, ap, subst, arith, append_assoc, length-append}
 use Rattle.std.proofs.lemmas.List.{append-nil, drop_at, drop-append-le}
-use Rattle.salt_disk.specs.Disk.{DiskState, Stays}
+use Rattle.salt_disk.specs.Disk.{DiskState, IsUnchanged}
 use Rattle.salt_disk.specs.Crash.{Image, MayLeave, LeavesTheSame, PassesTime, OneMayLeave, LeavesOnly}
 
 one_of : (xs ys : List DiskState) (image : Image) → OneMayLeave (xs ++ ys) image → OneMayLeave xs image ⊎ OneMayLeave ys image
@@ -22,7 +22,7 @@ pub leaves_itself : (disk : DiskState) → LeavesTheSame disk disk
 leaves_itself disk = record { later = λ image may. may; earlier = λ image may. may }
 
 -- a disk that stays as it was goes on
-pub stays_on : (old new : DiskState) (past since : List DiskState) → Stays old new past since → PassesTime old new past since
+pub stays_on : (old new : DiskState) (past since : List DiskState) → IsUnchanged old new past since → PassesTime old new past since
 stays_on old new past since stays = inr (record { time = stays.time; same = subst (λ (d : DiskState). LeavesTheSame old d) (sym stays.state) (leaves_itself old) })
 
 module _ {D : Type 0} (past : D → List DiskState) (state : D → DiskState) where

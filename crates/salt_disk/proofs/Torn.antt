@@ -6,7 +6,7 @@ use Rattle.salt_disk.specs.declared.disk.Part.TheVariants.{Root, Even, Odd}
 use Rattle.salt_disk.specs.declared.disk.DiskFault.{DiskFault}
 use Rattle.salt_disk.specs.declared.disk.DiskFault.TheVariants.{NoMemory, Failed}
 use Rattle.salt_disk.specs.declared.disk.Range.{Range}
-use Rattle.salt_disk.specs.Disk.{PartState, DiskState, part_of, settled_part, IsSettled, put, ranges_of, IsWritten, Changes, Stays, IsHonest, UnlessNoMemory}
+use Rattle.salt_disk.specs.Disk.{PartState, DiskState, part_of, settled_part, IsSettled, put, ranges_of, IsWritten, Changes, IsUnchanged, IsHonest, UnlessNoMemory}
 use Rattle.salt_disk.specs.Crash.{Image, IsWithin, IsPartImage, MayLeave, IsTorn, OthersMayLeave, WritesOnly, OthersStay}
 
 pub unless_either : {T : Type 0} (r : Result T DiskFault) (A B : Type 0) → UnlessNoMemory r A B → A ⊎ B
@@ -125,19 +125,19 @@ module _ (part : Part) (at : ℕ) (bytes : List ℕ) (old : DiskState) (is_settl
   }
 
   -- after the write, however it answered
-  pub first_call : {T : Type 0} (r : Result T DiskFault) (new : DiskState) (past since : List DiskState) → UnlessNoMemory r (Stays old new past since) (Changes part (IsWritten at bytes) old new) → (image : Image) → MayLeave new image → WritesOnly part at (length bytes) old image
+  pub first_call : {T : Type 0} (r : Result T DiskFault) (new : DiskState) (past since : List DiskState) → UnlessNoMemory r (IsUnchanged old new past since) (Changes part (IsWritten at bytes) old new) → (image : Image) → MayLeave new image → WritesOnly part at (length bytes) old image
   first_call r new past since crash image may =
-      ⊎_elim (λ (stays : Stays old new past since). before_write image (subst (λ (d : DiskState). MayLeave d image) stays.state may))
+      ⊎_elim (λ (stays : IsUnchanged old new past since). before_write image (subst (λ (d : DiskState). MayLeave d image) stays.state may))
       (λ (changes : Changes part (IsWritten at bytes) old new). during_write new image changes may)
-      (unless_either r (Stays old new past since) (Changes part (IsWritten at bytes) old new) crash)
+      (unless_either r (IsUnchanged old new past since) (Changes part (IsWritten at bytes) old new) crash)
 
   -- and after the sync, however it answered
   pub second_call : {T E : Type 0} (r : Result T E) (mid new : DiskState) (past since : List DiskState) → Changes part (IsWritten at bytes) old mid → (part_of mid part).bytes ≡ put at bytes (part_of old part).bytes
-      → OnOk r (Changes part (λ o n. n ≡ settled_part o.bytes) mid new) → OnErr r (Stays mid new past since) → (image : Image) → MayLeave new image → WritesOnly part at (length bytes) old image
+      → OnOk r (Changes part (λ o n. n ≡ settled_part o.bytes) mid new) → OnErr r (IsUnchanged mid new past since) → (image : Image) → MayLeave new image → WritesOnly part at (length bytes) old image
   second_call r mid new past since changes is_put synced failed image may =
       ⊎_elim (λ (done : Changes part (λ o n. n ≡ settled_part o.bytes) mid new). after_write new image (done.here ∙ ap settled_part is_put) (λ other ne. done.others other ne ∙ changes.others other ne) may)
-      (λ (stays : Stays mid new past since). during_write mid image changes (subst (λ (d : DiskState). MayLeave d image) stays.state may))
-      (ok_or_err r (Changes part (λ o n. n ≡ settled_part o.bytes) mid new) (Stays mid new past since) synced failed)
+      (λ (stays : IsUnchanged mid new past since). during_write mid image changes (subst (λ (d : DiskState). MayLeave d image) stays.state may))
+      (ok_or_err r (Changes part (λ o n. n ≡ settled_part o.bytes) mid new) (IsUnchanged mid new past since) synced failed)
 
 part_cases : (p q : Part) → (p ≡ q) ⊎ (p ≢ q)
 part_cases Root Root = inl refl

@@ -44,6 +44,14 @@ pub record StandsStill (old new : DiskState) (past since : List DiskState) : Typ
 abbrev pub PassesTime : DiskState → DiskState → List DiskState → List DiskState → Type 0
 PassesTime old new past since = AddsMoment old past since ⊎ StandsStill old new past since
 
+-- The time of the disk goes on by one moment with the call, or it stands still where no image changes.
+abbrev pub TakesTime : {D : Type 0} → (D → List DiskState) → (D → DiskState) → D → D → Type 0
+TakesTime past state old new = PassesTime (state old) (state new) (past old) (past new)
+
+-- Where the call changes no image, the time of the disk stands still.
+abbrev pub StandsStillWhereSame : {D : Type 0} → (D → List DiskState) → (D → DiskState) → D → D → Type 0
+StandsStillWhereSame past state old new = LeavesTheSame (state old) (state new) → past new ≡ past old
+
 -- a crash in one of these states may leave this
 abbrev pub OneMayLeave : List DiskState → Image → Type 0
 OneMayLeave [] image = ⊥
@@ -75,6 +83,24 @@ pub record WritesOnly (part : Part) (at count : ℕ) (old : DiskState) (image : 
   pub here : IsTorn at count (part_of old part).bytes (image part)
   pub others : OthersMayLeave part old image
 
+-- A crash at any moment of the call leaves a write at this place that was cut short, or not begun, or done.
+abbrev pub LeavesWrite : {D : Type 0} → (D → List DiskState) → (D → DiskState) → D → D → Part → ℕ → List ℕ → Type 0
+LeavesWrite past state old new part at bytes = LeavesOnly past state old new (WritesOnly part at (length bytes) (state old))
+
+-- A write over this place is pending, so a crash may leave any byte there.
+abbrev pub IsUnsure : DiskState → Part → ℕ → Type 0
+IsUnsure disk part place = IsWithin (part_of disk part).unsure place
+
 -- each other part stays
 abbrev pub OthersStay : Part → DiskState → DiskState → Type 0
 OthersStay part old new = (other : Part) → other ≢ part → part_of new other ≡ part_of old other
+
+-- The bytes in these ranges are all `pick`, and the others stay. No public contract cites it.
+pub record IsBlotted (pick : ℕ) (ranges : List Range) (old new : List ℕ) : Type 0 where
+  pub kept : (place : ℕ) → (IsWithin ranges place → ⊥) → slice_index new place ≡ slice_index old place
+  pub picked : (place : ℕ) → place < length old → IsWithin ranges place → slice_index new place ≡ pick
+
+-- The bytes in this range are all `pick`, and the others stay. No public contract cites it.
+pub record IsRangeBlotted (pick : ℕ) (range : Range) (old new : List ℕ) : Type 0 where
+  pub kept : (place : ℕ) → (place < range.start) ⊎ (range.end ≤ place) → slice_index new place ≡ slice_index old place
+  pub picked : (place : ℕ) → place < length old → range.start ≤ place → place < range.end → slice_index new place ≡ pick

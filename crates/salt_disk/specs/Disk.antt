@@ -1,5 +1,5 @@
 -- What a disk tells of its three parts, and what its calls do to them.
-use Rattle.std.specs.Prelude.{◌≡◌, ◌≢◌, ◌⊎◌, ◌<◌, ◌≤◌, ◌+◌, ℕ, max, List, [], ◌∷◌, ◌++◌, length, take, drop, slice_index, Result, Ok, Err}
+use Rattle.std.specs.Prelude.{◌≡◌, ◌≢◌, ◌⊎◌, ◌<◌, ◌≤◌, ◌+◌, ◌-◌, ℕ, max, min, List, [], ◌∷◌, ◌++◌, length, take, drop, slice_index, Result, Ok, Err, IfOk, OnOk}
 use Rattle.salt_disk.specs.declared.disk.DiskFault.{DiskFault}
 use Rattle.salt_disk.specs.declared.disk.DiskFault.TheVariants.{NoMemory, Failed}
 use Rattle.salt_disk.specs.declared.disk.Part.{Part}
@@ -60,14 +60,32 @@ pub record Changes (part : Part) (step : PartState → PartState → Type 0) (ol
   pub here : step (part_of old part) (part_of new part)
   pub others : (other : Part) → other ≢ part → part_of new other ≡ part_of old other
 
+-- the part is brought to rest, and the others stay
+abbrev pub Settles : Part → DiskState → DiskState → Type 0
+Settles part old new = Changes part (λ old new. new ≡ settled_part old.bytes) old new
+
 -- the disk stays as it was, and its time stands still
-pub record Stays (old new : DiskState) (past since : List DiskState) : Type 0 where
+pub record IsUnchanged (old new : DiskState) (past since : List DiskState) : Type 0 where
   pub state : new ≡ old
   pub time : since ≡ past
+
+-- What the disk tells stays as it was, and its time stands still.
+abbrev pub Stays : {D : Type 0} → (D → List DiskState) → (D → DiskState) → D → D → Type 0
+Stays past state old new = IsUnchanged (state old) (state new) (past old) (past new)
 
 -- what a read of so many bytes at this place gives
 abbrev pub read_from : List ℕ → ℕ → ℕ → List ℕ
 read_from bytes at count = take count (drop at bytes)
+
+-- The front of the buffer has so many of the bytes from this place on, as many as are there and as it has room for.
+-- What is behind them in the buffer stays.
+pub record IsReadAt (bytes : List ℕ) (at : ℕ) (into now : List ℕ) (number : ℕ) : Type 0 where
+  pub count : number ≡ min (length into) (length bytes - at)
+  pub buffer : now ≡ read_from bytes at number ++ drop number into
+
+-- At Ok the buffer has what stands in the part from this place on.
+abbrev pub ReadsAt : {E : Type 0} → DiskState → Part → ℕ → List ℕ → List ℕ → Result ℕ E → Type 0
+ReadsAt disk part at into now result = IfOk result (λ n. IsReadAt (part_of disk part).bytes at into now n)
 
 -- what a read gives has a length that a crash may leave
 abbrev pub IsHonest : DiskState → Type 0
@@ -78,3 +96,16 @@ abbrev pub UnlessNoMemory : {T : Type 0} → Result T DiskFault → Type 0 → T
 UnlessNoMemory (Ok value) stays changes = changes
 UnlessNoMemory (Err NoMemory) stays changes = stays
 UnlessNoMemory (Err Failed) stays changes = changes
+
+-- At Ok a read gives these bytes at this place of the part, and elsewhere what it gave before.
+abbrev pub PutsAt : {D T E : Type 0} → (D → DiskState) → D → D → Part → ℕ → List ℕ → Result T E → Type 0
+PutsAt state old new part at bytes result = OnOk result ((part_of (state new) part).bytes ≡ put at bytes (part_of (state old) part).bytes)
+
+-- A write of these bytes at this place, whether it went well or not. But after want of memory the disk is as it was.
+abbrev pub WritesAt : {D T : Type 0} → (D → List DiskState) → (D → DiskState) → D → D → Part → ℕ → List ℕ → Result T DiskFault → Type 0
+WritesAt past state old new part at bytes result =
+    UnlessNoMemory result (IsUnchanged (state old) (state new) (past old) (past new)) (Changes part (IsWritten at bytes) (state old) (state new))
+
+-- At Ok the part has these bytes at this place, and is at rest.
+abbrev pub Saves : {D T E : Type 0} → (D → DiskState) → D → D → Part → ℕ → List ℕ → Result T E → Type 0
+Saves state old new part at bytes result = OnOk result (part_of (state new) part ≡ settled_part (put at bytes (part_of (state old) part).bytes))

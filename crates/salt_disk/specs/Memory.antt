@@ -1,12 +1,12 @@
 -- What a memory disk tells.
-use Rattle.std.specs.Prelude.{◌≡◌, ◌<◌, ◌≤◌, ◌+◌, ◌-◌, ◌⊎◌, min, ℕ, List, length, slice_index, slice_get}
+use Rattle.std.specs.Prelude.{◌≡◌, ◌<◌, ◌≤◌, ◌+◌, ◌-◌, ◌⊎◌, min, ℕ, List, length, slice_index, slice_get, Result, OnOk}
 use Rattle.std.specs.Option.{ForSome}
 use Rattle.salt_disk.specs.declared.disk.Part.{Part}
 use Rattle.salt_disk.specs.declared.disk.Part.TheVariants.{Root, Even, Odd}
-use Rattle.salt_disk.specs.Crash.{IsWithin}
+use Rattle.salt_disk.specs.Crash.{IsWithin, MayLeave}
 use Rattle.salt_disk.specs.declared.part.MemPart.{MemPart}
 use Rattle.salt_disk.specs.declared.part.Parts.{Parts}
-use Rattle.salt_disk.specs.Disk.{PartState, DiskState, part_of, IsHonest}
+use Rattle.salt_disk.specs.Disk.{PartState, DiskState, part_of, IsHonest, IsSettled}
 
 -- what a part in memory tells
 abbrev pub part_state : MemPart → PartState
@@ -37,3 +37,13 @@ pub record IsPicked (pick cut : ℕ) (part : PartState) (file : List ℕ) : Type
   pub long : length file ≡ part.least + min cut (part.greatest - part.least)
   pub kept : (place : ℕ) → place < part.least → (IsWithin part.unsure place → ⊥) → slice_index file place ≡ slice_index part.bytes place
   pub picked : (place : ℕ) → place < length file → (part.least ≤ place) ⊎ IsWithin part.unsure place → slice_index file place ≡ pick
+
+-- A crash: the new disk is at rest and has an image of the old one, with `pick` at each unsure place and so much of each length.
+pub record IsCrash (pick cut : ℕ) (old new : DiskState) : Type 0 where
+  pub picked : (part : Part) → IsPicked pick cut (part_of old part) (part_of new part).bytes
+  pub settled : (part : Part) → IsSettled (part_of new part)
+  pub image : MayLeave old (λ part. (part_of new part).bytes)
+
+-- At Ok the disk has crashed so.
+abbrev pub Crashes : {D T E : Type 0} → ℕ → ℕ → (D → DiskState) → D → D → Result T E → Type 0
+Crashes pick cut state old new result = OnOk result (IsCrash pick cut (state old) (state new))

@@ -1,9 +1,9 @@
 //! A disk of three files: the trait, its parts and its faults.
-ghost use Rattle.std.specs.Prelude.{◌≡◌, ◌⊎◌, ◌≤◌, ◌-◌, ◌+◌, List, ℕ, [], ◌∷◌, ◌++◌, length, take, drop, min, IfOk, OnOk, OnErr, IsErrOf};
+ghost use Rattle.std.specs.Prelude.{◌≡◌, ◌≤◌, List, ℕ, [], length, IfOk, OnOk, OnErr, IsErrOf};
 ghost use Rattle.salt_disk.specs.declared.disk.DiskFault.TheVariants.{NoMemory};
-ghost use Rattle.salt_disk.specs.Disk.{DiskState, PartState, part_of, settled_part, put, IsWritten, IsEmptied, Changes, Stays, IsHonest, read_from, UnlessNoMemory};
-ghost use Rattle.salt_disk.specs.Crash.{PassesTime, LeavesTheSame};
-ghost use Rattle.salt_outside.specs.Causes.{CountsFaults};
+ghost use Rattle.salt_disk.specs.Disk.{DiskState, part_of, IsEmptied, Changes, Settles, Stays, IsHonest, ReadsAt, PutsAt, WritesAt};
+ghost use Rattle.salt_disk.specs.Crash.{TakesTime, StandsStillWhereSame};
+ghost use Rattle.salt_outside.specs.Causes.{CountsFailures};
 ghost use Rattle.salt_disk.specs.declared.disk.Fuse.{Fuse};
 ghost use Rattle.salt_disk.specs.Fuse.{Burns, Lasts};
 
@@ -79,54 +79,51 @@ pub trait Disk {
     fn len(&mut self, part: Part) -> Result<u64, DiskFault>
         ensures ok { is_told → IfOk result (λ n. n ≡ length (part_of (state self.old) part).bytes) }
         ensures disk { OnOk result (self.new ≡ self.old) }
-        ensures same { is_told → Stays (state self.old) (state self.new) (past self.old) (past self.new) }
+        ensures same { is_told → Stays past state self.old self.new }
         ensures memory { IsErrOf result NoMemory → ⊥ }
         ensures fuse { is_told → Lasts (fuse self.old) (fuse self.new) result }
-        ensures faults { CountsFaults (IsErrOf result DiskFault.Failed) (faults self.old) (faults self.new) };
+        ensures faults { CountsFailures faults DiskFault.Failed self.old self.new result };
 
     /// Reads the bytes that are there from the place `at` on, as far as `into` goes, and answers their number.
     /// After an error `into` may hold anything.
     fn read(&mut self, part: Part, at: u64, into: &mut [u8]) -> Result<usize, DiskFault>
         ensures room { IfOk result (λ n. n ≤ length into.old) }
-        ensures ok { is_told → IfOk result (λ n.
-            (n ≡ min (length into.old) (length (part_of (state self.old) part).bytes - at))
-            × (into.new ≡ read_from (part_of (state self.old) part).bytes at n ++ drop n into.old)) }
-        ensures same { is_told → Stays (state self.old) (state self.new) (past self.old) (past self.new) }
+        ensures ok { is_told → ReadsAt (state self.old) part at into.old into.new result }
+        ensures same { is_told → Stays past state self.old self.new }
         ensures memory { IsErrOf result NoMemory → ⊥ }
         ensures fuse { is_told → Lasts (fuse self.old) (fuse self.new) result }
-        ensures faults { CountsFaults (IsErrOf result DiskFault.Failed) (faults self.old) (faults self.new) };
+        ensures faults { CountsFailures faults DiskFault.Failed self.old self.new result };
 
     /// Writes these bytes at the place `at`, over what is there and past the end. After `Failed` the range
     /// may hold anything; after `NoMemory` nothing was changed.
     fn write_at(&mut self, part: Part, at: u64, bytes: &[u8]) -> Result<(), DiskFault>
         requires { is_told → at ≤ length (part_of (state self.old) part).bytes }
-        ensures ok { is_told → OnOk result ((part_of (state self.new) part).bytes ≡ put at bytes.now (part_of (state self.old) part).bytes) }
-        ensures crash { is_told → UnlessNoMemory result (Stays (state self.old) (state self.new) (past self.old) (past self.new))
-            (Changes part (IsWritten at bytes.now) (state self.old) (state self.new)) }
-        ensures time { is_told → PassesTime (state self.old) (state self.new) (past self.old) (past self.new) }
+        ensures ok { is_told → PutsAt state self.old self.new part at bytes.now result }
+        ensures crash { is_told → WritesAt past state self.old self.new part at bytes.now result }
+        ensures time { is_told → TakesTime past state self.old self.new }
         ensures fuse { is_told → Burns 1 (fuse self.old) (fuse self.new) result }
-        ensures fuse_memory { is_told → IsErrOf result NoMemory → fuse self.new ≡ fuse self.old }
-        ensures faults { CountsFaults (IsErrOf result DiskFault.Failed) (faults self.old) (faults self.new) };
+        ensures memory { is_told → IsErrOf result NoMemory → fuse self.new ≡ fuse self.old }
+        ensures faults { CountsFailures faults DiskFault.Failed self.old self.new result };
 
     /// Makes the part empty. After `Failed` a crash may leave it empty or as it was.
     fn cut(&mut self, part: Part) -> Result<(), DiskFault>
         ensures ok { is_told → OnOk result ((part_of (state self.new) part).bytes ≡ []) }
         ensures crash { is_told → Changes part IsEmptied (state self.old) (state self.new) }
-        ensures time { is_told → PassesTime (state self.old) (state self.new) (past self.old) (past self.new) }
-        ensures still { is_told → LeavesTheSame (state self.old) (state self.new) → past self.new ≡ past self.old }
+        ensures time { is_told → TakesTime past state self.old self.new }
+        ensures still { is_told → StandsStillWhereSame past state self.old self.new }
         ensures memory { IsErrOf result NoMemory → ⊥ }
         ensures fuse { is_told → Burns 1 (fuse self.old) (fuse self.new) result }
-        ensures faults { CountsFaults (IsErrOf result DiskFault.Failed) (faults self.old) (faults self.new) };
+        ensures faults { CountsFailures faults DiskFault.Failed self.old self.new result };
 
     /// Brings the part to rest: after it, a crash leaves what a read gives. After `Failed` all is as it was.
     fn sync(&mut self, part: Part) -> Result<(), DiskFault>
-        ensures ok { is_told → OnOk result (Changes part (λ old new. new ≡ settled_part old.bytes) (state self.old) (state self.new)) }
-        ensures err { is_told → OnErr result (Stays (state self.old) (state self.new) (past self.old) (past self.new)) }
-        ensures time { is_told → PassesTime (state self.old) (state self.new) (past self.old) (past self.new) }
-        ensures still { is_told → LeavesTheSame (state self.old) (state self.new) → past self.new ≡ past self.old }
+        ensures ok { is_told → OnOk result (Settles part (state self.old) (state self.new)) }
+        ensures err { is_told → OnErr result (Stays past state self.old self.new) }
+        ensures time { is_told → TakesTime past state self.old self.new }
+        ensures still { is_told → StandsStillWhereSame past state self.old self.new }
         ensures memory { IsErrOf result NoMemory → ⊥ }
         ensures fuse { is_told → Burns 1 (fuse self.old) (fuse self.new) result }
-        ensures faults { CountsFaults (IsErrOf result DiskFault.Failed) (faults self.old) (faults self.new) };
+        ensures faults { CountsFailures faults DiskFault.Failed self.old self.new result };
 
     /// A disk as it reads is one of its own images.
     ghost honest: { (disk : Self) → is_told → IsHonest (state disk) };

@@ -1,6 +1,6 @@
 //! When the calls of a disk in memory fail.
 ghost use Rattle.std.specs.Prelude.{◌≡◌, ◌≤◌, OnOk, IsErrOf};
-ghost use Rattle.salt_outside.specs.Causes.{next_count, CountsFaults};
+ghost use Rattle.salt_outside.specs.Causes.{next_count, CountsFailures};
 ghost use Rattle.salt_disk.specs.Fuse.{Burns, Lasts};
 
 use crate::{DiskFault, Fuse};
@@ -16,7 +16,7 @@ impl Faults {
     pub fn pass(&mut self) -> Result<(), DiskFault>
         ensures ok { OnOk result (self.new ≡ self.old) }
         ensures fuse { Lasts self.old.fuse self.new.fuse result }
-        ensures faults { CountsFaults (IsErrOf result DiskFault.Failed) self.old.count self.new.count }
+        ensures faults { CountsFailures (λ f. f.count) DiskFault.Failed self.old self.new result }
         ensures memory { IsErrOf result DiskFault.NoMemory → ⊥ }
     {
         match self.fuse {
@@ -28,7 +28,7 @@ impl Faults {
     /// A changing call: it burns the fuse by one, and fails where there is nothing left of it.
     pub fn burn(&mut self) -> Result<(), DiskFault>
         ensures fuse { Burns 1 self.old.fuse self.new.fuse result }
-        ensures faults { CountsFaults (IsErrOf result DiskFault.Failed) self.old.count self.new.count }
+        ensures faults { CountsFailures (λ f. f.count) DiskFault.Failed self.old self.new result }
         ensures memory { IsErrOf result DiskFault.NoMemory → ⊥ }
     {
         match self.fuse {

@@ -1,9 +1,9 @@
 //! A disk in memory. It keeps a record of its changing calls, from which what a crash might have left follows.
 ghost use Rattle.std.specs.Prelude.{◌≡◌, ◌≢◌, ◌≤◌, ◌+◌, [], length, vec_len, vec_capacity, OnOk, OnErr};
-ghost use Rattle.salt_disk.specs.Disk.{part_of, settled_part, IsSettled};
-ghost use Rattle.salt_disk.specs.Crash.{MayLeave, LeavesTheSame};
-ghost use Rattle.salt_disk.specs.History.{states, replay, owed_by, whole, with_part, wrote, after_cut, Replays, IsRecorded, IsBounded};
-ghost use Rattle.salt_disk.specs.Memory.{part_state, parts_state, honest_parts, IsPicked};
+ghost use Rattle.salt_disk.specs.Disk.{part_of, settled_part};
+ghost use Rattle.salt_disk.specs.History.{states, replay, owed_by, whole, Replays, IsBounded};
+ghost use Rattle.salt_disk.specs.Memory.{part_state, parts_state, honest_parts, Crashes};
+ghost use Rattle.salt_disk.specs.Steps.{WritesPart, CutsPart, SettlesPart, RecordsStep, RecordsOnlyChanges, HasEntriesLeft};
 
 use crate::call::Call;
 use crate::fuse::Faults;
@@ -81,9 +81,7 @@ impl MemDisk {
     /// length of each part is `cut` bytes past its least length, or its greatest length where that is less.
     /// After an error all is as before.
     pub fn crash(&mut self, pick: u8, cut: u64) -> Result<(), AllocError>
-        ensures picked { OnOk result ((part : Part) → IsPicked pick cut (part_of (⟦<MemDisk as Disk>⟧.state self.old) part) (part_of (⟦<MemDisk as Disk>⟧.state self.new) part).bytes) }
-        ensures settled { OnOk result ((part : Part) → IsSettled (part_of (⟦<MemDisk as Disk>⟧.state self.new) part)) }
-        ensures image { OnOk result (MayLeave (⟦<MemDisk as Disk>⟧.state self.old) (λ part. (part_of (⟦<MemDisk as Disk>⟧.state self.new) part).bytes)) }
+        ensures ok { Crashes pick cut ⟦<MemDisk as Disk>⟧.state self.old self.new result }
         ensures time { OnOk result (⟦<MemDisk as Disk>⟧.past self.new ≡ []) }
         ensures fuse { OnOk result (⟦<MemDisk as Disk>⟧.fuse self.new ≡ Fuse.Whole) }
         ensures err { OnErr result (self.new ≡ self.old) }
@@ -134,11 +132,13 @@ fn write_part(
 ) -> Result<(), AllocError>
     requires within { at ≤ length (part_of (parts_state parts.old) part).bytes }
     requires room { vec_len calls.old + 10 ≤ vec_capacity calls.old }
-    ensures state { OnOk result (parts_state parts.new ≡ with_part (parts_state parts.old) part (wrote (part_of (parts_state parts.old) part) at bytes.items)) }
-    ensures recorded { OnOk result (IsRecorded (parts_state parts.old) (parts_state parts.new) calls.old.items calls.new.items) }
-    ensures room { OnOk result (vec_len calls.new + owed_by (parts_state parts.new) ≤ vec_capacity calls.new) }
-    ensures err { OnErr result ((parts_state parts.new ≡ parts_state parts.old) × (calls.new.items ≡ calls.old.items)) }
-    ensures err_room { OnErr result ((vec_len calls.new ≡ vec_len calls.old) × (vec_capacity calls.new ≡ vec_capacity calls.old)) }
+    ensures state { OnOk result (WritesPart part at bytes.items parts.old parts.new) }
+    ensures recorded { OnOk result (RecordsStep parts.old parts.new calls.old calls.new) }
+    ensures room { OnOk result (HasEntriesLeft parts.new calls.new) }
+    ensures err { OnErr result (parts_state parts.new ≡ parts_state parts.old) }
+    ensures err_calls { OnErr result (calls.new.items ≡ calls.old.items) }
+    ensures err_len { OnErr result (vec_len calls.new ≡ vec_len calls.old) }
+    ensures err_capacity { OnErr result (vec_capacity calls.new ≡ vec_capacity calls.old) }
 {
     parts.write(part, at, &bytes)?;
     calls.push_reserved(Call::Write(part, at, bytes));
@@ -146,11 +146,11 @@ fn write_part(
 }
 
 fn cut_part(parts: &mut Parts, calls: &mut Vec<Call>, part: Part)
-    requires room { vec_len calls.old + owed_by (parts_state parts.old) ≤ vec_capacity calls.old }
-    ensures state { parts_state parts.new ≡ with_part (parts_state parts.old) part (after_cut (part_of (parts_state parts.old) part)) }
-    ensures recorded { IsRecorded (parts_state parts.old) (parts_state parts.new) calls.old.items calls.new.items }
-    ensures still { LeavesTheSame (parts_state parts.old) (parts_state parts.new) → calls.new.items ≡ calls.old.items }
-    ensures room { vec_len calls.new + owed_by (parts_state parts.new) ≤ vec_capacity calls.new }
+    requires room { HasEntriesLeft parts.old calls.old }
+    ensures state { CutsPart part parts.old parts.new }
+    ensures recorded { RecordsStep parts.old parts.new calls.old calls.new }
+    ensures still { RecordsOnlyChanges parts.old parts.new calls.old calls.new }
+    ensures room { HasEntriesLeft parts.new calls.new }
 {
     let changes = parts.least(part) > 0;
     parts.cut(part);
@@ -160,11 +160,11 @@ fn cut_part(parts: &mut Parts, calls: &mut Vec<Call>, part: Part)
 }
 
 fn sync_part(parts: &mut Parts, calls: &mut Vec<Call>, part: Part)
-    requires room { vec_len calls.old + owed_by (parts_state parts.old) ≤ vec_capacity calls.old }
-    ensures state { parts_state parts.new ≡ with_part (parts_state parts.old) part (settled_part (part_of (parts_state parts.old) part).bytes) }
-    ensures recorded { IsRecorded (parts_state parts.old) (parts_state parts.new) calls.old.items calls.new.items }
-    ensures still { LeavesTheSame (parts_state parts.old) (parts_state parts.new) → calls.new.items ≡ calls.old.items }
-    ensures room { vec_len calls.new + owed_by (parts_state parts.new) ≤ vec_capacity calls.new }
+    requires room { HasEntriesLeft parts.old calls.old }
+    ensures state { SettlesPart part parts.old parts.new }
+    ensures recorded { RecordsStep parts.old parts.new calls.old calls.new }
+    ensures still { RecordsOnlyChanges parts.old parts.new calls.old calls.new }
+    ensures room { HasEntriesLeft parts.new calls.new }
 {
     if parts.is_calm(part) {
         return;

@@ -1,9 +1,9 @@
 //! The three parts of a disk in memory.
-ghost use Rattle.std.specs.Prelude.{◌≡◌, ◌≤◌, ◌<◌, ◌+◌, ◌-◌, ◌^◌, ◌⊎◌, ℕ, [], ◌++◌, length, drop, min, true, false, OnOk, OnErr, IfOk, slice_get, slice_index, vec_len, vec_capacity};
+ghost use Rattle.std.specs.Prelude.{◌≡◌, ◌≤◌, ◌<◌, ◌+◌, ◌^◌, ◌++◌, length, OnOk, OnErr, IfOk, slice_get, vec_len, vec_capacity};
 ghost use Rattle.std.specs.Option.{ForSome};
-ghost use Rattle.salt_disk.specs.Disk.{part_of, settled_part, put, ranges_of, read_from};
-ghost use Rattle.salt_disk.specs.Crash.{IsWithin};
-ghost use Rattle.salt_disk.specs.History.{with_part, wrote, after_cut, is_calm};
+ghost use Rattle.salt_disk.specs.Disk.{part_of, settled_part, put, ranges_of, IsReadAt};
+ghost use Rattle.salt_disk.specs.Crash.{IsBlotted, IsRangeBlotted};
+ghost use Rattle.salt_disk.specs.History.{wrote, after_cut, is_calm};
 
 use crate::{Part, Range};
 use std::alloc::{AllocError, Global};
@@ -78,8 +78,7 @@ impl MemPart {
     }
 
     pub fn read(&self, at: u64, into: &mut [u8]) -> usize
-        ensures count { result ≡ min (length into.old) (length self.now.bytes.items - at) }
-        ensures bytes { into.new ≡ read_from self.now.bytes.items at result ++ drop result into.old }
+        ensures { IsReadAt self.now.bytes.items at into.old into.new result }
     {
         if at >= self.bytes.len() as u64 {
             return 0;
@@ -93,10 +92,11 @@ impl MemPart {
 
 impl Parts {
     ghost use Rattle.salt_disk.specs.Memory.{part_state, parts_state};
+    ghost use Rattle.salt_disk.specs.Steps.{WritesPart, CutsPart, SettlesPart};
 
     pub fn write(&mut self, part: Part, at: u64, bytes: &[u8]) -> Result<(), AllocError>
         requires { at ≤ length (part_of (parts_state self.old) part).bytes }
-        ensures ok { OnOk result (parts_state self.new ≡ with_part (parts_state self.old) part (wrote (part_of (parts_state self.old) part) at bytes.now)) }
+        ensures ok { OnOk result (WritesPart part at bytes.now self.old self.new) }
         ensures err { OnErr result (parts_state self.new ≡ parts_state self.old) }
     {
         match part {
@@ -107,7 +107,7 @@ impl Parts {
     }
 
     pub fn cut(&mut self, part: Part)
-        ensures { parts_state self.new ≡ with_part (parts_state self.old) part (after_cut (part_of (parts_state self.old) part)) }
+        ensures { CutsPart part self.old self.new }
     {
         match part {
             Part::Root => self.root.cut(),
@@ -117,7 +117,7 @@ impl Parts {
     }
 
     pub fn sync(&mut self, part: Part)
-        ensures { parts_state self.new ≡ with_part (parts_state self.old) part (settled_part (part_of (parts_state self.old) part).bytes) }
+        ensures { SettlesPart part self.old self.new }
     {
         match part {
             Part::Root => self.root.sync(),
@@ -147,8 +147,7 @@ impl Parts {
     }
 
     pub fn read(&self, part: Part, at: u64, into: &mut [u8]) -> usize
-        ensures count { result ≡ min (length into.old) (length (part_of (parts_state self.now) part).bytes - at) }
-        ensures bytes { into.new ≡ read_from (part_of (parts_state self.now) part).bytes at result ++ drop result into.old }
+        ensures { IsReadAt (part_of (parts_state self.now) part).bytes at into.old into.new result }
     {
         match part {
             Part::Root => self.root.read(at, into),
@@ -196,8 +195,7 @@ fn note_range(unsure: &mut Vec<Range>, at: u64, bytes: &[u8])
 
 // Puts `pick` at each place of the image that lies in one of the ranges.
 fn blot_ranges(image: &mut [u8], ranges: &[Range], pick: u8)
-    ensures kept { (place : ℕ) → (IsWithin ranges.now place → ⊥) → slice_index image.new place ≡ slice_index image.old place }
-    ensures picked { (place : ℕ) → place < length image.old → IsWithin ranges.now place → slice_index image.new place ≡ pick }
+    ensures { IsBlotted pick ranges.now image.old image.new }
 {
     for range in ranges {
         blot_range(image, range, pick);
@@ -206,8 +204,7 @@ fn blot_ranges(image: &mut [u8], ranges: &[Range], pick: u8)
 
 // Puts `pick` at each place of the image that lies in this range.
 fn blot_range(image: &mut [u8], range: &Range, pick: u8)
-    ensures kept { (place : ℕ) → (place < range.now.start) ⊎ (range.now.end ≤ place) → slice_index image.new place ≡ slice_index image.old place }
-    ensures picked { (place : ℕ) → place < length image.old → range.now.start ≤ place → place < range.now.end → slice_index image.new place ≡ pick }
+    ensures { IsRangeBlotted pick range.now image.old image.new }
 {
     let end = image.len().min(range.end as usize);
     for place in range.start as usize..end {

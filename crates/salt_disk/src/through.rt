@@ -1,8 +1,9 @@
 //! A write that is on the disk when it answers Ok.
-ghost use Rattle.std.specs.Prelude.{◌≡◌, ◌<◌, ◌≤◌, length, OnOk, OnErr, IsErrOf};
-ghost use Rattle.salt_disk.specs.Disk.{part_of, settled_part, put, IsSettled, Stays};
-ghost use Rattle.salt_disk.specs.Crash.{IsWithin, LeavesOnly, WritesOnly, OthersStay};
-ghost use Rattle.salt_outside.specs.Causes.{CountsFaults};
+ghost use Rattle.std.specs.Prelude.{◌<◌, ◌≤◌, length, IsErrOf};
+ghost use Rattle.salt_disk.specs.declared.disk.DiskFault.TheVariants.{NoMemory, Failed};
+ghost use Rattle.salt_disk.specs.Disk.{part_of, IsSettled, Stays, Saves};
+ghost use Rattle.salt_disk.specs.Crash.{LeavesWrite, IsUnsure, OthersStay};
+ghost use Rattle.salt_outside.specs.Causes.{CountsFailures};
 ghost use Rattle.salt_disk.specs.Fuse.{Burns};
 
 use crate::{Disk, DiskFault, Part};
@@ -19,13 +20,13 @@ pub fn write_through<D: Disk>(
     requires some { 0 < length bytes.now }
     requires settled { D.is_told → IsSettled (part_of (D.state disk.old) part) }
     requires within { D.is_told → at ≤ length (part_of (D.state disk.old) part).bytes }
-    ensures ok { D.is_told → OnOk result (part_of (D.state disk.new) part ≡ settled_part (put at bytes.now (part_of (D.state disk.old) part).bytes)) }
-    ensures memory { D.is_told → IsErrOf result DiskFault.NoMemory → Stays (D.state disk.old) (D.state disk.new) (D.past disk.old) (D.past disk.new) }
+    ensures ok { D.is_told → Saves D.state disk.old disk.new part at bytes.now result }
+    ensures memory { D.is_told → IsErrOf result NoMemory → Stays D.past D.state disk.old disk.new }
     ensures others { D.is_told → OthersStay part (D.state disk.old) (D.state disk.new) }
-    ensures crash { D.is_told → LeavesOnly D.past D.state disk.old disk.new (WritesOnly part at (length bytes.now) (D.state disk.old)) }
+    ensures crash { D.is_told → LeavesWrite D.past D.state disk.old disk.new part at bytes.now }
     ensures fuse { D.is_told → Burns 2 (D.fuse disk.old) (D.fuse disk.new) result }
-    ensures cut_off { D.is_told → IsErrOf result DiskFault.Failed → IsWithin (part_of (D.state disk.new) part).unsure at }
-    ensures faults { CountsFaults (IsErrOf result DiskFault.Failed) (D.faults disk.old) (D.faults disk.new) }
+    ensures failed { D.is_told → IsErrOf result Failed → IsUnsure (D.state disk.new) part at }
+    ensures faults { CountsFailures D.faults DiskFault.Failed disk.old disk.new result }
 {
     disk.write_at(part, at, bytes)?;
     disk.sync(part)

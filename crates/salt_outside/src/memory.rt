@@ -1,6 +1,6 @@
 //! A source and a sink in memory, of which chosen calls fail.
-ghost use Rattle.std.specs.Prelude.{◌≡◌, ◌++◌, ◌<◌, ◌≤◌, ℕ, List, [], Option, Some, drop, length, take, min, IfOk, OnOk, OnErr, IsErrOf, IsOkUnless};
-ghost use Rattle.salt_outside.specs.Streams.{contents_after, left_before, IsPart, IsAtEnd};
+ghost use Rattle.std.specs.Prelude.{◌≡◌, ◌<◌, ◌≤◌, ℕ, List, [], Option, Some, drop, length, IfOk, OnErr, IsOkUnless};
+ghost use Rattle.salt_outside.specs.Streams.{ReadsFront, WritesAll, IsPart, IsAtEnd};
 
 use crate::calls::Calls;
 use crate::{Outside, Sink, Source};
@@ -34,8 +34,8 @@ impl MemSource {
 }
 
 impl Source for MemSource {
-    ghost use Rattle.salt_outside.specs.Memory.{source_left, source_fails, source_calls, source_faults, FailsWhereListed};
-    ghost use Rattle.salt_outside.specs.Causes.{next_count, CountsFaults};
+    ghost use Rattle.salt_outside.specs.Memory.{source_left, left_in_memory, source_fails, source_calls, source_faults, CountsMost, FailsWhereListed};
+    ghost use Rattle.salt_outside.specs.Causes.{next_count, CountsFailures};
 
     ghost left = { λ s. Some (drop s.at s.bytes.items) };
 
@@ -46,13 +46,13 @@ impl Source for MemSource {
     fn read(&mut self, into: &mut [u8]) -> Result<usize, Outside>
         requires { 0 < length into.old }
         ensures ok { IfOk result (λ count. count ≤ length into.new) }
-        ensures count { IfOk result (λ count. count ≡ min (length into.old) (length (source_left self.old))) }
-        ensures left { IfOk result (λ count. Some (source_left self.old) ≡ left_before (take count into.new) (Some (source_left self.new))) }
-        ensures end { IfOk result (λ count. count ≡ 0 → IsAtEnd (Some (source_left self.old))) }
+        ensures count { CountsMost into.old (source_left self.old) result }
+        ensures left { ReadsFront left_in_memory self.old self.new into.new result }
+        ensures end { IfOk result (λ count. count ≡ 0 → IsAtEnd (left_in_memory self.old)) }
         ensures calls { source_calls self.new ≡ next_count (source_calls self.old) }
         ensures fails { source_fails self.new ≡ source_fails self.old }
-        ensures faults { CountsFaults (IsErrOf result Outside.Failed) (source_faults self.old) (source_faults self.new) }
-        ensures err { OnErr result (Some (source_left self.new) ≡ Some (source_left self.old)) }
+        ensures faults { CountsFailures source_faults Outside.Failed self.old self.new result }
+        ensures err { OnErr result (left_in_memory self.new ≡ left_in_memory self.old) }
         ensures failed { FailsWhereListed (source_fails self.old) (source_calls self.old) result }
         ensures memory { IsOkUnless result Outside.Failed }
     {
@@ -99,8 +99,8 @@ impl MemSink {
 }
 
 impl Sink for MemSink {
-    ghost use Rattle.salt_outside.specs.Memory.{sink_held, sink_fails, sink_calls, sink_faults, FailsWhereListed};
-    ghost use Rattle.salt_outside.specs.Causes.{next_count, CountsFaults};
+    ghost use Rattle.salt_outside.specs.Memory.{sink_held, held_in_memory, sink_fails, sink_calls, sink_faults, FailsWhereListed};
+    ghost use Rattle.salt_outside.specs.Causes.{next_count, CountsFailures};
 
     ghost held = { λ s. Some s.bytes.items };
 
@@ -109,11 +109,11 @@ impl Sink for MemSink {
     /// Writes all the bytes. After an error none was written.
     #[tactic(auto, using(crate::proofs::Parts::part_whole, crate::proofs::Parts::part_none, crate::proofs::Faults::counted))]
     fn write(&mut self, bytes: &[u8]) -> Result<(), Outside>
-        ensures ok { OnOk result (Some (sink_held self.new) ≡ contents_after (Some (sink_held self.old)) bytes.now) }
-        ensures part { IsPart (Some (sink_held self.old)) (Some (sink_held self.new)) bytes.now }
+        ensures ok { WritesAll held_in_memory self.old self.new bytes.now result }
+        ensures part { IsPart (held_in_memory self.old) (held_in_memory self.new) bytes.now }
         ensures calls { sink_calls self.new ≡ next_count (sink_calls self.old) }
         ensures fails { sink_fails self.new ≡ sink_fails self.old }
-        ensures faults { CountsFaults (IsErrOf result Outside.Failed) (sink_faults self.old) (sink_faults self.new) }
+        ensures faults { CountsFailures sink_faults Outside.Failed self.old self.new result }
         ensures err { OnErr result (sink_held self.new ≡ sink_held self.old) }
         ensures failed { FailsWhereListed (sink_fails self.old) (sink_calls self.old) result }
     {

@@ -1,7 +1,8 @@
 //! All that a source has left, up to a limit.
 ghost use Rattle.std.specs.Prelude.{◌≡◌, ◌≤◌, ℕ, length, IfOk, OnOk, IsErrOf};
+ghost use Rattle.salt_outside.specs.declared.read.ReadAll.TheVariants.{TooLong};
 ghost use Rattle.salt_outside.specs.Streams.{left_before, HasMoreThan, HasAtMost, IsAtEnd, IsRest};
-ghost use Rattle.salt_outside.specs.Causes.{CountsFaults};
+ghost use Rattle.salt_outside.specs.Causes.{CountsFailures};
 
 use crate::{Outside, Source};
 use std::alloc::Global;
@@ -37,11 +38,11 @@ pub fn read_all<S: Source>(alloc: Global, source: &mut S, limit: usize) -> Resul
     // Over a source that tells: Ok only where at most `limit` bytes were left, TooLong only where more were. So each
     // comes exactly where it should, but for faults and want of memory.
     ensures fits { OnOk result (HasAtMost limit (S.left source.old)) }
-    ensures too_long { IsErrOf result (ReadAll.TooLong limit) → HasMoreThan limit (S.left source.old) }
-    ensures limit { (n : ℕ) → IsErrOf result (ReadAll.TooLong n) → n ≡ limit }
+    ensures too_long { IsErrOf result (TooLong limit) → HasMoreThan limit (S.left source.old) }
+    ensures limit { (n : ℕ) → IsErrOf result (TooLong n) → n ≡ limit }
 
     // The answer is ReadFault exactly where the source failed. After want of memory and TooLong its count is as before.
-    ensures faults { CountsFaults (IsErrOf result ReadAll.ReadFault) (S.faults source.old) (S.faults source.new) }
+    ensures faults { CountsFailures S.faults ReadAll.ReadFault source.old source.new result }
 {
     let mut bytes = Vec::new(alloc);
     let mut piece = [0; PIECE];

@@ -1,8 +1,7 @@
 //! A source over a reader of std, and a sink over a writer.
 ghost use Rattle.std.specs.Prelude.{◌≡◌, ◌<◌, ◌≤◌, ℕ, length, take, None, IfOk, OnOk, IsErrOf, IsOkUnless};
-ghost use Rattle.std.specs.Io.KnownBytes.{Appends, ReadConsumes};
 ghost use Rattle.salt_outside.specs.Causes.{next_count};
-ghost use Rattle.salt_outside.specs.Written.{AppendsPart};
+ghost use Rattle.salt_outside.specs.Written.{AppendsAll, AppendsFront, ReadsKnown};
 
 use crate::{Outside, Sink, Source};
 use std::io;
@@ -28,7 +27,7 @@ impl<R: Read + Drop> StdSource<R> {
 }
 
 impl<R: Read + Drop> Source for StdSource<R> {
-    ghost use Rattle.salt_outside.specs.Causes.{CountsFaults};
+    ghost use Rattle.salt_outside.specs.Causes.{CountsFailures};
     ghost use Rattle.salt_outside.specs.Standard.{reader, reader_faults};
 
     ghost left = { λ _. None };
@@ -40,9 +39,9 @@ impl<R: Read + Drop> Source for StdSource<R> {
     fn read(&mut self, into: &mut [u8]) -> Result<usize, Outside>
         requires { 0 < length into.old }
         ensures ok { IfOk result (λ count. count ≤ length into.new) }
-        ensures faults { CountsFaults (IsErrOf result Outside.Failed) (reader_faults self.old) (reader_faults self.new) }
+        ensures faults { CountsFailures reader_faults Outside.Failed self.old self.new result }
         ensures memory { IsOkUnless result Outside.Failed }
-        ensures known { ReadConsumes (R.remaining (reader self.old)) (R.remaining (reader self.new)) result into.new }
+        ensures known { ReadsKnown (λ s. R.remaining (reader s)) self.old self.new into.new result }
     {
         match self.inner.read(into) {
             Ok(count) => Ok(count),
@@ -71,7 +70,7 @@ impl<W: Write + Drop> StdSink<W> {
 }
 
 impl<W: Write + Drop> Sink for StdSink<W> {
-    ghost use Rattle.salt_outside.specs.Causes.{CountsFaults};
+    ghost use Rattle.salt_outside.specs.Causes.{CountsFailures};
     ghost use Rattle.salt_outside.specs.Standard.{writer, writer_faults};
 
     ghost held = { λ _. None };
@@ -82,10 +81,10 @@ impl<W: Write + Drop> Sink for StdSink<W> {
     /// too, and so is a write that takes nothing.
     #[tactic(auto, using(crate::proofs::Faults::counted))]
     fn write(&mut self, bytes: &[u8]) -> Result<(), Outside>
-        ensures faults { CountsFaults (IsErrOf result Outside.Failed) (writer_faults self.old) (writer_faults self.new) }
+        ensures faults { CountsFailures writer_faults Outside.Failed self.old self.new result }
         ensures memory { IsOkUnless result Outside.Failed }
-        ensures known { OnOk result (Appends (W.contents (writer self.old)) (W.contents (writer self.new)) bytes.now) }
-        ensures known_part { AppendsPart (W.contents (writer self.old)) (W.contents (writer self.new)) bytes.now }
+        ensures known { AppendsAll (λ s. W.contents (writer s)) self.old self.new bytes.now result }
+        ensures known_part { AppendsFront (λ s. W.contents (writer s)) self.old self.new bytes.now }
     {
         match write_and_flush(&mut self.inner, bytes) {
             Ok(()) => Ok(()),
@@ -107,8 +106,8 @@ fn count_fault(faults: &mut u64) -> Outside
 /// Writes all the bytes, and then flushes.
 #[tactic(auto, using(crate::proofs::Written::appends_all, crate::proofs::Written::appends_part))]
 fn write_and_flush<W: Write>(writer: &mut W, bytes: &[u8]) -> io::Result<()>
-    ensures known { OnOk result (Appends (W.contents writer.old) (W.contents writer.new) bytes.now) }
-    ensures known_part { AppendsPart (W.contents writer.old) (W.contents writer.new) bytes.now }
+    ensures known { AppendsAll W.contents writer.old writer.new bytes.now result }
+    ensures known_part { AppendsFront W.contents writer.old writer.new bytes.now }
 {
     let mut done = 0;
     while done < bytes.len() {

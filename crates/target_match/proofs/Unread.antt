@@ -1,6 +1,6 @@
 -- The first leaf whose pattern cannot be read, from what is said of each leaf.
-use Rattle.std.proofs.Common.{◌≡◌, ℕ, zero, suc, ◌+◌, ◌<◌, ◌≤◌, Bool, true, false, List, [], ◌∷◌, length, Option, None, Some, slice_index_or, refl, sym, ap, subst, ◌∙◌, arith}
-use Rattle.std.specs.Prelude.{not, nat_lt, nat_le, position, option_map, chars, IsSomeAnd, Result, IfErr, IsErrOf}
+use Rattle.std.proofs.Common.{◌≡◌, ℕ, zero, suc, ◌+◌, ◌<◌, ◌≤◌, Bool, true, false, List, [], ◌∷◌, length, Option, None, Some, slice_index_or, refl, sym, ap, ◌∙◌, arith}
+use Rattle.std.specs.Prelude.{not, nat_lt, position, option_map, chars, IsSomeAnd, Result, Ok, Err, IfErr}
 use Rattle.std.specs.List.{position_or_len}
 use Rattle.std.proofs.lemmas.Bool.{lt-ltb, ltb-true, le-leb, leb-true}
 use Rattle.regex.specs.Patterns.{Re, default_config}
@@ -8,12 +8,12 @@ use Rattle.regex_syntax.specs.Brackets.{Nested}
 use Rattle.regex_syntax.specs.Grammar.{Names, read}
 use Rattle.target_tree.specs.declared.target.Target.{Target}
 use Rattle.target_match.specs.Patterns.{IsReadable}
-use Rattle.target_match.specs.Holds.{patterns, IsReadableLeaf, AreReadable, IsBadAt, IsToldAs, NamesBadPattern, leaf_count}
+use Rattle.target_match.specs.Holds.{patterns, IsReadableLeaf, AreReadable, IsBadAt, NamesBadPattern, leaf_count}
 use Rattle.target_match.specs.Building.{IsFaultOf}
 use Rattle.target_match.specs.declared.fault.BuildFault.{BuildFault}
-use Rattle.target_match.specs.declared.fault.BuildFault.TheVariants.{BadPattern}
-use Rattle.target_match.proofs.Leaves.{bad_whole}
-use Rattle.target_match.specs.Unread.{is_within_nesting, is_readable, is_readable_leaf, first_unread, unread_leaf}
+use Rattle.target_match.specs.declared.fault.BuildFault.TheVariants.{NoMemory, BadPattern, TooBig}
+use Rattle.target_match.proofs.Leaves.{bad_whole, big_whole}
+use Rattle.target_match.specs.Unread.{is_within_nesting, is_readable, is_readable_leaf, first_unread, unread_leaf, IsBuildFault}
 
 -- ---- places of the first that passes
 
@@ -86,5 +86,11 @@ pub names_unread : (target : Target) (told : ℕ) → NamesBadPattern target tol
 unfolding unread_leaf
 names_unread target told h = bad_unread (patterns target) h.0 h.2 ∙ ap Some (sym h.1)
 
-pub bad_told : {A : Type 0} (r : Result A BuildFault) (target : Target) → IfErr r (IsFaultOf (patterns target) 0) → (leaf : ℕ) → IsErrOf r (BadPattern leaf) → unread_leaf target ≡ Some leaf
-bad_told r target h leaf e = names_unread target leaf (bad_whole (patterns target) leaf (subst (λ x. IfErr x (IsFaultOf (patterns target) 0)) e h))
+fault_is : (target : Target) (fault : BuildFault) → IsFaultOf (patterns target) 0 fault → IsBuildFault target fault
+fault_is target NoMemory h = tt
+fault_is target (BadPattern leaf) h = let named = bad_whole (patterns target) leaf h in (names_unread target leaf named, named)
+fault_is target (TooBig leaf) h = big_whole (patterns target) leaf h
+
+pub fault_told : {A : Type 0} (r : Result A BuildFault) (target : Target) → IfErr r (IsFaultOf (patterns target) 0) → IfErr r (IsBuildFault target)
+fault_told (Ok x) target h = tt
+fault_told (Err fault) target h = fault_is target fault h

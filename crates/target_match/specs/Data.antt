@@ -41,6 +41,10 @@ meets = fold-Value Test meets_layer
 abbrev pub told_pairs : List (List ℕ × Value) → List (List ℕ × Test)
 told_pairs pairs = map (λ p. (p.0, meets p.1)) pairs
 
+-- The child under this key meets parts. No public contract cites it.
+abbrev pub child_meets : List ℕ → List (List ℕ × Value) → Test
+child_meets key pairs = child_passes (under key (told_pairs pairs))
+
 -- a scalar passes at the end of the path alone
 abbrev pub text_reaches : (List ℕ → Bool) → List ℕ → Test
 text_reaches test text [] = test text
@@ -51,6 +55,7 @@ abbrev pub map_reaches : (List ℕ → Bool) → List (List ℕ × Test) → Tes
 map_reaches test pairs [] = list_any (λ pair. test pair.0) pairs
 map_reaches test pairs (p ∷ ps) = child_passes (under p pairs) ps
 
+-- a scalar is reached as its text, a list by one of its members, a map by its keys and children
 abbrev pub reaches_layer : (List ℕ → Bool) → Value-F Test → Test
 reaches_layer test Value-F.Null ps = text_reaches test (codes "None") ps
 reaches_layer test (Value-F.Flag flag) ps = text_reaches test (flag_text flag) ps
@@ -66,3 +71,7 @@ reaches test = fold-Value Test (reaches_layer test)
 -- Each pair with whether a path from its value on reaches such a text. No public contract cites it.
 abbrev pub reaches_pairs : (List ℕ → Bool) → List (List ℕ × Value) → List (List ℕ × Test)
 reaches_pairs test pairs = map (λ p. (p.0, reaches test p.1)) pairs
+
+-- A path into a map of these pairs reaches such a text. No public contract cites it.
+abbrev pub fields_reach : (List ℕ → Bool) → List (List ℕ × Value) → Test
+fields_reach test pairs = map_reaches test (reaches_pairs test pairs)

@@ -23,6 +23,7 @@ abbrev pub pattern_holds : List ℕ → Data → Bool
 pattern_holds text fields =
     reaches (starts (pattern_of (parts text))) (Map fields) (path_of (parts text))
 
+-- a leaf holds by its kind, and an operator by its operands
 abbrev pub holds_layer : List ℕ → Data → Data → Target-F Bool → Bool
 holds_layer id grains pillar (Target-F.IdGlob text) = glob text id
 holds_layer id grains pillar (Target-F.IdPcre text) = starts text id
@@ -39,7 +40,7 @@ holds_layer id grains pillar (Target-F.Or left right) = left || right
 abbrev pub holds : Target → List ℕ → Data → Data → Bool
 holds tree id grains pillar = fold-Target Bool (holds_layer id grains pillar) tree
 
--- each leaf is a glob of the id or a list of ids
+-- the same of one layer of a target: each leaf is a glob of the id or a list of ids
 abbrev pub by_id_layer : Target-F Bool → Bool
 by_id_layer (Target-F.IdGlob text) = true
 by_id_layer (Target-F.IdPcre text) = false
@@ -52,6 +53,7 @@ by_id_layer (Target-F.Not one) = one
 by_id_layer (Target-F.And left right) = left && right
 by_id_layer (Target-F.Or left right) = left && right
 
+-- each leaf of the target is a glob of the id or a list of ids
 abbrev pub is_by_id : Target → Bool
 is_by_id = fold-Target Bool by_id_layer
 
@@ -59,7 +61,7 @@ is_by_id = fold-Target Bool by_id_layer
 abbrev pub decision_by_id : Target → List ℕ → Data → Data → Option Bool
 decision_by_id tree id grains pillar = if is_by_id tree then Some (holds tree id grains pillar) else None
 
--- of each leaf from left to right its pattern, and none of other leaves
+-- the patterns of one layer of a target, in its order
 abbrev pub patterns_layer : Target-F (List (Option (List ℕ))) → List (Option (List ℕ))
 patterns_layer (Target-F.IdGlob text) = None ∷ []
 patterns_layer (Target-F.IdPcre text) = Some text ∷ []
@@ -72,6 +74,7 @@ patterns_layer (Target-F.Not one) = one
 patterns_layer (Target-F.And left right) = left ++ right
 patterns_layer (Target-F.Or left right) = left ++ right
 
+-- of each leaf of a target from left to right its pattern, and none of other leaves
 abbrev pub patterns : Target → List (Option (List ℕ))
 patterns = fold-Target (List (Option (List ℕ))) patterns_layer
 

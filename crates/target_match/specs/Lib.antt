@@ -6,5 +6,6 @@ pub mod Holds
 pub mod Unread
 pub mod Searches
 pub mod ById
+pub mod Reach
 pub mod Ready
 pub mod Building

@@ -36,3 +36,7 @@ after_path (p ∷ q ∷ ps) = if is_key_name p then after_path (q ∷ ps) else p
 -- the pattern of a leaf's parts: those after the path, joined
 abbrev pub pattern_of : List (List ℕ) → List ℕ
 pattern_of ps = joined_path (after_path ps)
+
+-- The pattern of a leaf's text. No public contract cites it.
+abbrev pub pattern_in : List ℕ → List ℕ
+pattern_in text = pattern_of (parts text)

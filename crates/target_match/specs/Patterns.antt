@@ -15,6 +15,7 @@ abbrev pub begins : Option Match → Bool
 begins None = false
 begins (Some m) = m.start == 0
 
+-- the expression that was read, if one was, matches first at the start of the text
 abbrev pub starts_by : Option (Nested Re × Names) → List ℕ → Bool
 starts_by None text = false
 starts_by (Some (re, names)) text = begins (find_str re.value text 0)

@@ -1,9 +1,11 @@
 -- Searches for patterns that are kept from one minion to the next.
-use Rattle.std.specs.Prelude.{◌≡◌, ℕ, Bool, true, false, List, ◌++◌, length, Option, None, Some, bytes_eq, IsTrue}
+use Rattle.std.specs.Prelude.{◌≡◌, ℕ, Bool, true, false, List, [], ◌∷◌, ◌++◌, length, Option, None, Some, Result, OnOk, bytes_eq, slice_index_or, IsTrue}
 use Rattle.std.specs.List.{list_any, list_all, IsDistinct}
 use Rattle.target_tree.specs.declared.target.Target.{Target}
 use Rattle.target_tree.specs.declared.target.Target.TheVariants.{Not, And, Or}
 use Rattle.target_match.specs.Holds.{Data, holds, patterns}
+use Rattle.target_match.specs.declared.ready.Ready.{Ready}
+use Rattle.target_match.specs.Ready.{target_of}
 
 -- the leaf has no pattern, or one with a search
 abbrev pub is_searched : List (List ℕ) → Option (List ℕ) → Bool
@@ -15,7 +17,8 @@ abbrev pub has_pattern : List ℕ → Option (List ℕ) → Bool
 has_pattern pattern None = false
 has_pattern pattern (Some own) = bytes_eq own pattern
 
--- the searches before come first still, those after them are of patterns of these leaves, no pattern gets a second one, and where each pattern has one there are no more
+-- the searches before come first still, those after them are of patterns of these leaves, no pattern gets a second one, and where each
+-- pattern has one there are no more
 pub record Keeps (leaves : List (Option (List ℕ))) (before after : List (List ℕ)) : Type 0 where
   pub more : List (List ℕ)
   pub first : after ≡ before ++ more
@@ -41,3 +44,23 @@ pub record HasSearches (id : List ℕ) (grains pillar : Data) (tree : Target) (b
   pub asked : Asks id grains pillar tree leaves
   pub searched : IsTrue (list_all (is_searched after) leaves)
   pub keeps : Keeps leaves before after
+
+-- After an answer the searches have grown by those that the target asked for this minion.
+abbrev pub AddsAsked : {A E : Type 0} → Result A E → List ℕ → Data → Data → Target → List (List ℕ) → List (List ℕ) → Type 0
+AddsAsked result id grains pillar tree before after = OnOk result (HasSearches id grains pillar tree before after)
+
+-- The same of a ready tree. No public contract cites it.
+abbrev pub AddsOfReady : {A E : Type 0} → Result A E → List ℕ → Data → Data → Ready → List (List ℕ) → List (List ℕ) → Type 0
+AddsOfReady result id grains pillar tree before after = AddsAsked result id grains pillar (target_of tree) before after
+
+-- The searches before are kept, and those after them are at most one of this pattern. No public contract cites it.
+abbrev pub KeepsFor : List ℕ → List (List ℕ) → List (List ℕ) → Type 0
+KeepsFor pattern = Keeps (Some pattern ∷ [])
+
+-- The pattern has a search. No public contract cites it.
+abbrev pub HasSearch : List ℕ → List (List ℕ) → Type 0
+HasSearch pattern searches = IsTrue (list_any (bytes_eq pattern) searches)
+
+-- The search of the pattern stands at this place. No public contract cites it.
+abbrev pub IsPlaceOf : List ℕ → List (List ℕ) → ℕ → Type 0
+IsPlaceOf pattern searches place = slice_index_or searches place [] ≡ pattern

@@ -1,10 +1,12 @@
 -- Whether the patterns of a target can be read, as a test, and which one is the first that cannot.
-use Rattle.std.specs.Prelude.{ℕ, nat_le, not, chars, position, Bool, true, false, List, Option, None, Some, option_map}
+use Rattle.std.specs.Prelude.{◌≡◌, ℕ, nat_le, not, chars, position, Bool, true, false, List, Option, None, Some, option_map}
 use Rattle.regex.specs.Patterns.{Re, default_config}
 use Rattle.regex_syntax.specs.Brackets.{Nested}
 use Rattle.regex_syntax.specs.Grammar.{Names, read}
 use Rattle.target_tree.specs.declared.target.Target.{Target}
-use Rattle.target_match.specs.Holds.{patterns, leaf_count}
+use Rattle.target_match.specs.Holds.{patterns, leaf_count, NamesBadPattern, NamesBigPattern}
+use Rattle.target_match.specs.declared.fault.BuildFault.{BuildFault}
+use Rattle.target_match.specs.declared.fault.BuildFault.TheVariants.{NoMemory, BadPattern, TooBig}
 
 -- an expression was read, and its nesting is within the limit
 abbrev pub is_within_nesting : Option (Nested Re × Names) → Bool
@@ -27,3 +29,9 @@ first_unread leaves = option_map leaf_count (position (λ leaf. not (is_readable
 -- the number of the first leaf of a target whose pattern cannot be read
 unfoldable pub unread_leaf : Target → Option ℕ
 unread_leaf target = first_unread (patterns target)
+
+-- Why a target is not made ready: the first pattern that cannot be read, or one that can be read and is too big.
+abbrev pub IsBuildFault : Target → BuildFault → Type 0
+IsBuildFault target NoMemory = Unit {0}
+IsBuildFault target (BadPattern leaf) = (unread_leaf target ≡ Some leaf) × NamesBadPattern target leaf
+IsBuildFault target (TooBig leaf) = NamesBigPattern target leaf

@@ -2,10 +2,9 @@
 ghost use Rattle.std.specs.Prelude.{◌≡◌, IfOk, map, bytes_eq};
 ghost use Rattle.std.specs.List.{list_any};
 ghost use Rattle.salt_glob.specs.Lowered.{glob_caseless};
-ghost use Rattle.salt_value.specs.Keys.{under};
 ghost use Rattle.salt_value.specs.Scalar.{flag_text};
 ghost use Rattle.target_match.specs.Paths.{parts};
-ghost use Rattle.target_match.specs.Data.{meets, map_meets, child_passes, told_pairs};
+ghost use Rattle.target_match.specs.Data.{meets, map_meets, child_meets, told_pairs};
 
 use crate::parts::split;
 use salt_glob::glob_caseless;
@@ -60,7 +59,7 @@ fn child_meets(
     key: &str,
     text: &str,
 ) -> Result<bool, AllocError>
-    ensures { IfOk result (λ b. b ≡ child_passes (under key.now (told_pairs pairs.now)) (parts text.now)) }
+    ensures { IfOk result (λ b. b ≡ child_meets key.now pairs.now (parts text.now)) }
 {
     for (name, child) in pairs {
         if is_key(name, key.as_bytes()) {

@@ -2,7 +2,6 @@
 ghost use Rattle.std.specs.Prelude.{◌≡◌, bytes_eq};
 ghost use Rattle.std.specs.List.{list_any};
 ghost use Rattle.target_match.specs.ById as spec;
-ghost use Rattle.target_match.specs.Holds.{Data, decision_by_id};
 ghost use Rattle.target_match.specs.Ready.{target_of};
 
 use crate::ready::Ready;
@@ -40,7 +39,7 @@ fn not(one: Option<bool>) -> Option<bool>
 
 /// What the id alone decides of a target; None where a leaf is neither a glob of the id nor a list of ids.
 pub fn by_id(tree: &Ready, id: &[u8]) -> Option<bool>
-    ensures { (grains pillar : Data) → result ≡ decision_by_id (target_of tree.now) id.now grains pillar }
+    ensures { spec.IsDecisionById result (target_of tree.now) id.now }
 {
     match tree {
         Ready::IdGlob(text) => Some(glob(text.as_bytes(), id)),

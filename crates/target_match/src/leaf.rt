@@ -1,10 +1,9 @@
 //! Patterns of leaves with what is made of them once. Contracts see the text of the leaf.
-ghost use Rattle.std.specs.Prelude.{◌≡◌, [], ◌∷◌, Some, bytes_eq, IfOk, IfErr, OnOk, IsTrue};
-ghost use Rattle.std.specs.List.{list_any};
-ghost use Rattle.target_match.specs.Paths.{parts, pattern_of};
+ghost use Rattle.std.specs.Prelude.{◌≡◌, IfOk, IfErr, OnOk};
+ghost use Rattle.target_match.specs.Paths.{pattern_in};
 ghost use Rattle.target_match.specs.Patterns.{IsReadable, starts};
 ghost use Rattle.target_match.specs.Holds.{pattern_holds};
-ghost use Rattle.target_match.specs.Searches.{Keeps};
+ghost use Rattle.target_match.specs.Searches.{KeepsFor, HasSearch};
 ghost use Rattle.target_match.specs.Building.{IsRefusalOf};
 
 use crate::BuildFault;
@@ -55,8 +54,8 @@ impl IdPattern {
         id: &str,
     ) -> Result<bool, AllocError>
         ensures ok { IfOk result (λ b. b ≡ starts self.now id.now) }
-        ensures searches { Keeps (Some self.now ∷ []) searches.old.items searches.new.items }
-        ensures asked { OnOk result (IsTrue (list_any (bytes_eq self.now) searches.new.items)) }
+        ensures searches { KeepsFor self.now searches.old.items searches.new.items }
+        ensures asked { OnOk result (HasSearch self.now searches.new.items) }
     {
         let place = made(alloc, searches, &self.regex)?;
         let search = &mut searches[place];
@@ -89,8 +88,8 @@ impl Model for DataPattern {
 impl DataPattern {
     pub fn new(alloc: Global, text: &Text, leaf: u32) -> Result<DataPattern, BuildFault>
         ensures ok { IfOk result (λ p. p ≡ text.now) }
-        ensures readable { IfOk result (λ _. IsReadable (pattern_of (parts text.now))) }
-        ensures fault { IfErr result (IsRefusalOf (pattern_of (parts text.now)) leaf) }
+        ensures readable { IfOk result (λ _. IsReadable (pattern_in text.now)) }
+        ensures fault { IfErr result (IsRefusalOf (pattern_in text.now) leaf) }
     {
         let text = text.copy()?;
         let split = path_and_pattern(alloc, text.as_str())?;
@@ -107,8 +106,8 @@ impl DataPattern {
         fields: &[(Text, Value)],
     ) -> Result<bool, AllocError>
         ensures ok { IfOk result (λ b. b ≡ pattern_holds self.now fields.now) }
-        ensures searches { Keeps (Some (pattern_of (parts self.now)) ∷ []) searches.old.items searches.new.items }
-        ensures asked { OnOk result (IsTrue (list_any (bytes_eq (pattern_of (parts self.now))) searches.new.items)) }
+        ensures searches { KeepsFor (pattern_in self.now) searches.old.items searches.new.items }
+        ensures asked { OnOk result (HasSearch (pattern_in self.now) searches.new.items) }
     {
         let place = made(alloc, searches, &self.regex)?;
         let search = &mut searches[place];

@@ -1,8 +1,8 @@
 //! A target that is ready for matching.
-ghost use Rattle.std.specs.Prelude.{◌≡◌, ℕ, None, Some, [], IfOk, OnOk, IsOk, IsErrOf, IsTrue};
-ghost use Rattle.target_match.specs.Holds.{Data, holds, is_by_id, decision_by_id, patterns, AreReadable, NamesBadPattern, NamesBigPattern};
-ghost use Rattle.target_match.specs.Unread.{unread_leaf};
-ghost use Rattle.target_match.specs.Searches.{Keeps, HasSearches};
+ghost use Rattle.std.specs.Prelude.{◌≡◌, None, [], IfOk, IfErr, IsOk, IsTrue};
+ghost use Rattle.target_match.specs.Holds.{Data, holds, is_by_id, decision_by_id, patterns, AreReadable};
+ghost use Rattle.target_match.specs.Unread.{unread_leaf, IsBuildFault};
+ghost use Rattle.target_match.specs.Searches.{Keeps, AddsAsked};
 
 use crate::BuildFault;
 use crate::building::ready;
@@ -41,9 +41,7 @@ impl Matcher {
         ensures ok { IfOk result (λ m. m ≡ target.now) }
         ensures readable { IfOk result (λ _. unread_leaf target.now ≡ None) }
         ensures readable_leaves { IfOk result (λ _. AreReadable (patterns target.now)) }
-        ensures bad_pattern { (leaf : ℕ) → IsErrOf result (BuildFault.BadPattern leaf) → unread_leaf target.now ≡ Some leaf }
-        ensures bad_leaf { (leaf : ℕ) → IsErrOf result (BuildFault.BadPattern leaf) → NamesBadPattern target.now leaf }
-        ensures too_big { (leaf : ℕ) → IsErrOf result (BuildFault.TooBig leaf) → NamesBigPattern target.now leaf }
+        ensures fault { IfErr result (IsBuildFault target.now) }
     {
         let mut leaves = 0;
         let ready = ready(alloc, target, &mut leaves)?;
@@ -80,20 +78,20 @@ impl Matcher {
     /// for a pattern that has one. After an answer each pattern that was asked has its search, and no other search was made.
     pub fn holds_with<'m>(
         &'m self,
-        searches: &mut Searches<'m>,
+        kept: &mut Searches<'m>,
         id: &MinionId,
         grains: &Fields,
         pillar: &Fields,
     ) -> Result<bool, AllocError>
         ensures value { IfOk result (λ b. b ≡ holds self.now id.now grains.now pillar.now) }
-        ensures searches { Keeps (patterns self.now) searches.old searches.new }
-        ensures asked { OnOk result (HasSearches id.now grains.now pillar.now self.now searches.old searches.new) }
+        ensures searches { Keeps (patterns self.now) kept.old kept.new }
+        ensures asked { AddsAsked result id.now grains.now pillar.now self.now kept.old kept.new }
         ensures memory { IsTrue (is_by_id self.now) → IsOk result }
     {
         holds(
             self.alloc,
             &self.ready,
-            &mut searches.made,
+            kept,
             id,
             grains.as_slice(),
             pillar.as_slice(),

@@ -1,10 +1,9 @@
 //! Patterns at the end of paths into grains and pillar.
 ghost use Rattle.std.specs.Prelude.{◌≡◌, IfOk};
-ghost use Rattle.std.specs.List.{list_any};
 ghost use Rattle.regex.specs.Strings.{regex_source, regex_pattern, matcher_pattern};
-ghost use Rattle.salt_value.specs.Keys.{under};
 ghost use Rattle.target_match.specs.Patterns.{IsCompiled, starts};
-ghost use Rattle.target_match.specs.Data.{reaches, text_reaches, map_reaches, child_passes, reaches_pairs};
+ghost use Rattle.target_match.specs.Data.{text_reaches};
+ghost use Rattle.target_match.specs.Reach.{value_begins, any_begins, map_begins, child_begins, any_key_begins};
 
 use crate::data::{is_key, name_of};
 use crate::pattern::starts;
@@ -23,7 +22,7 @@ pub fn reached(
 ) -> Result<bool, AllocError>
     requires compiled { IsCompiled pattern.now }
     requires same { matcher_pattern matcher.old ≡ regex_pattern pattern.now }
-    ensures ok { IfOk result (λ b. b ≡ reaches (starts (regex_source pattern.now)) value.now path.now) }
+    ensures ok { IfOk result (λ b. b ≡ value_begins pattern.now value.now path.now) }
     ensures kept { matcher_pattern matcher.new ≡ matcher_pattern matcher.old }
 {
     match value {
@@ -61,7 +60,7 @@ fn any_reached(
 ) -> Result<bool, AllocError>
     requires compiled { IsCompiled pattern.now }
     requires same { matcher_pattern matcher.old ≡ regex_pattern pattern.now }
-    ensures ok { IfOk result (λ b. b ≡ list_any (λ v. reaches (starts (regex_source pattern.now)) v path.now) items.now) }
+    ensures ok { IfOk result (λ b. b ≡ any_begins pattern.now items.now path.now) }
     ensures kept { matcher_pattern matcher.new ≡ matcher_pattern matcher.old }
 {
     for item in items {
@@ -83,7 +82,7 @@ pub fn pairs_reached(
 ) -> Result<bool, AllocError>
     requires compiled { IsCompiled pattern.now }
     requires same { matcher_pattern matcher.old ≡ regex_pattern pattern.now }
-    ensures ok { IfOk result (λ b. b ≡ map_reaches (starts (regex_source pattern.now)) (reaches_pairs (starts (regex_source pattern.now)) pairs.now) path.now) }
+    ensures ok { IfOk result (λ b. b ≡ map_begins pattern.now pairs.now path.now) }
     ensures kept { matcher_pattern matcher.new ≡ matcher_pattern matcher.old }
 {
     match path {
@@ -103,7 +102,7 @@ fn child_reached(
 ) -> Result<bool, AllocError>
     requires compiled { IsCompiled pattern.now }
     requires same { matcher_pattern matcher.old ≡ regex_pattern pattern.now }
-    ensures ok { IfOk result (λ b. b ≡ child_passes (under key.now (reaches_pairs (starts (regex_source pattern.now)) pairs.now)) path.now) }
+    ensures ok { IfOk result (λ b. b ≡ child_begins pattern.now key.now pairs.now path.now) }
     ensures kept { matcher_pattern matcher.new ≡ matcher_pattern matcher.old }
 {
     for (name, child) in pairs {
@@ -117,7 +116,7 @@ fn child_reached(
 fn any_key_passes(matcher: &mut Matcher<'_>, pattern: &Regex, pairs: &[(Text, Value)]) -> bool
     requires compiled { IsCompiled pattern.now }
     requires same { matcher_pattern matcher.old ≡ regex_pattern pattern.now }
-    ensures value { result ≡ list_any (λ p. starts (regex_source pattern.now) p.0) (reaches_pairs (starts (regex_source pattern.now)) pairs.now) }
+    ensures value { result ≡ any_key_begins pattern.now pairs.now }
     ensures kept { matcher_pattern matcher.new ≡ matcher_pattern matcher.old }
 {
     for (name, _) in pairs {

@@ -1,9 +1,9 @@
 //! Searches for patterns, made once for any number of minions.
-ghost use Rattle.std.specs.Prelude.{◌≡◌, ◌<◌, [], ◌∷◌, Some, length, position, bytes_eq, slice_index_or, IfOk};
+ghost use Rattle.std.specs.Prelude.{◌≡◌, ◌<◌, [], length, position, bytes_eq, IfOk};
 ghost use Rattle.regex.specs.Strings.{regex_source};
 ghost use Rattle.target_match.specs.Patterns.{IsCompiled, starts};
-ghost use Rattle.target_match.specs.Data.{map_reaches, reaches_pairs};
-ghost use Rattle.target_match.specs.Searches.{Keeps};
+ghost use Rattle.target_match.specs.Data.{fields_reach};
+ghost use Rattle.target_match.specs.Searches.{KeepsFor, IsPlaceOf};
 
 use crate::pattern::starts;
 use crate::reach::pairs_reached;
@@ -64,7 +64,7 @@ impl<'m> Search<'m> {
         fields: &[(Text, Value)],
         path: &[Text],
     ) -> Result<bool, AllocError>
-        ensures ok { IfOk result (λ b. b ≡ map_reaches (starts self.old) (reaches_pairs (starts self.old) fields.now) path.now) }
+        ensures ok { IfOk result (λ b. b ≡ fields_reach (starts self.old) fields.now path.now) }
         ensures kept { self.new ≡ self.old }
     {
         pairs_reached(alloc, &mut self.matcher, self.regex, fields, path)
@@ -86,8 +86,8 @@ pub fn made<'m>(
 ) -> Result<usize, AllocError>
     requires { IsCompiled regex.now }
     ensures within { IfOk result (λ place. place < length searches.new.items) }
-    ensures same { IfOk result (λ place. slice_index_or searches.new.items place [] ≡ regex_source regex.now) }
-    ensures searches { Keeps (Some (regex_source regex.now) ∷ []) searches.old.items searches.new.items }
+    ensures same { IfOk result (IsPlaceOf (regex_source regex.now) searches.new.items) }
+    ensures searches { KeepsFor (regex_source regex.now) searches.old.items searches.new.items }
 {
     match place_of(searches.as_slice(), regex.as_str()) {
         Some(place) => Ok(place),

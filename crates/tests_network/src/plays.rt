@@ -1,71 +1,111 @@
 //! The turns of a play, and the worlds in which they are performed.
-ghost use Rattle.std.specs.Bool.{OnTrue};
-ghost use Rattle.salt_value.specs.WellFormed.{ValueFits};
-ghost use Rattle.salt_value.specs.declared.value.Value.TheVariants as v;
-
+use exec_functions::Holdings;
 use fleet_config::{Fleet, FleetNode, Role};
-use node_core::Glob;
 use salt_outside::MemSink;
-use salt_value::{Items, Jid, MinionId, NodeId, Text, Value, Word, copy_items};
+use salt_value::{Fields, Items, Jid, MinionId, NodeId, Text, Value, Word};
 use std::alloc::Global;
 use std::process::Abort;
+use target_tree::Kind;
 use tree_world::{StepFault, Turn, World};
+use value_json::from_text;
 
 /// What is said where a step that must succeed doesn't.
 pub const FAILED: &str = "memory, or a right text";
 
-/// One turn of a play.
+/// One turn of a play, or a few of them.
 #[derive(Clone, Copy, Debug)]
 pub enum Play {
-    /// `test.ping`, for a glob.
-    Publish(u64, &'static str),
-    /// A function of one text, for all minions.
-    Run(u64, &'static str, &'static str),
+    /// `test.ping`, for a target.
+    Publish(u64, Kind, &'static str),
+    /// The same for a target that is so many of this part.
+    Repeat(u64, Kind, &'static str, u32),
+    /// A function with these arguments, each as JSON, for all minions.
+    Run(u64, &'static str, &'static [&'static str]),
     Send(u32, u32, u64),
     Deliver(u64),
+    /// The packets from this number on, up to before that one.
+    DeliverEach(u64, u64),
     Report(&'static str),
     Packet(u64),
 }
 
-/// A node to add to a fleet: its id, its role and the place of its parent.
-pub type Sown = (&'static str, Role, u32);
+/// A node to add to a fleet: its id, its role, the place of its parent, and its grains and its pillar as JSON.
+pub type Sown = (&'static str, Role, u32, &'static str, &'static str);
 
 /// A top with the minions m2 and m1, in this order.
-pub static PAIR: [Sown; 2] = [("m2", Role::Minion, 0), ("m1", Role::Minion, 0)];
+pub static PAIR: [Sown; 2] = [
+    ("m2", Role::Minion, 0, "{}", "{}"),
+    ("m1", Role::Minion, 0, "{}", "{}"),
+];
 
-fn node(rt: &impl Abort, id: &str, role: Role, parent: Option<NodeId>) -> FleetNode {
+// The map of a JSON text, and none where it is another value.
+fn fields(rt: &impl Abort, alloc: Global, json: &str) -> Fields {
+    match from_text(alloc, json).expect(rt, FAILED) {
+        Value::Map(fields) => fields,
+        _ => Fields::new(alloc),
+    }
+}
+
+fn held(rt: &impl Abort, alloc: Global, grains: &str, pillar: &str) -> Holdings {
+    Holdings {
+        grains: fields(rt, alloc, grains),
+        pillar: fields(rt, alloc, pillar),
+        store: Fields::new(alloc),
+        mine: Fields::new(alloc),
+    }
+}
+
+fn top(rt: &impl Abort, alloc: Global) -> FleetNode {
+    FleetNode {
+        id: MinionId::read("top").expect(rt, FAILED),
+        role: Role::Top,
+        parent: None,
+        port: 0,
+        held: Holdings::none(alloc),
+    }
+}
+
+fn node(rt: &impl Abort, alloc: Global, sown: &Sown) -> FleetNode {
+    let (id, role, parent, grains, pillar) = sown;
     FleetNode {
         id: MinionId::read(id).expect(rt, FAILED),
-        role,
-        parent,
+        role: *role,
+        parent: Some(NodeId::new(*parent)),
+        port: 0,
+        held: held(rt, alloc, grains, pillar),
     }
 }
 
-// A top, and these nodes.
-fn fleet(rt: &impl Abort, alloc: Global, nodes: &[Sown]) -> Fleet {
+/// A top, and these nodes.
+pub fn fleet(rt: &impl Abort, alloc: Global, nodes: &[Sown]) -> Fleet {
     let mut fleet = Fleet::new(alloc);
-    fleet
-        .add(node(rt, "top", Role::Top, None))
-        .expect(rt, FAILED);
-    for (id, role, parent) in nodes {
-        let node = node(rt, id, *role, Some(NodeId::new(*parent)));
-        fleet.add(node).expect(rt, FAILED);
+    fleet.add(top(rt, alloc)).expect(rt, FAILED);
+    for sown in nodes {
+        fleet.add(node(rt, alloc, sown)).expect(rt, FAILED);
     }
     fleet
 }
 
-/// The world of a top and these nodes.
-pub fn world(rt: &impl Abort, alloc: Global, nodes: &[Sown]) -> World {
-    let fleet = fleet(rt, alloc, nodes);
+/// The world of a fleet.
+pub fn world_of(rt: &impl Abort, alloc: Global, fleet: Fleet) -> World {
     if fleet.count() == 0 {
         panic!(rt; "no node");
     }
     World::of(alloc, fleet).expect(rt, FAILED)
 }
 
-/// The target of a text, which is none where the text is too short or too long.
-pub fn target(rt: &impl Abort, alloc: Global, text: &str) -> Option<Glob> {
-    Glob::new(Text::new(String::from_str(alloc, text).expect(rt, FAILED))).ok()
+/// The world of a top and these nodes.
+pub fn world(rt: &impl Abort, alloc: Global, nodes: &[Sown]) -> World {
+    world_of(rt, alloc, fleet(rt, alloc, nodes))
+}
+
+/// A text that is so many of this part.
+pub fn repeated(rt: &impl Abort, alloc: Global, part: &str, count: u32) -> String {
+    let mut text = String::new(alloc);
+    for _ in 0..count {
+        text.push_str(part).expect(rt, FAILED);
+    }
+    text
 }
 
 // Nodes that are no neighbours send nothing.
@@ -98,70 +138,49 @@ fn report(world: &mut World, sink: &mut MemSink, jid: &str) -> Result<(), StepFa
     }
 }
 
-// One text as an argument, and no argument where the text is empty.
-fn arguments(rt: &impl Abort, alloc: Global, text: &str) -> Items {
+// Each argument of its JSON.
+fn arguments(rt: &impl Abort, alloc: Global, texts: &[&str]) -> Items {
     let mut items = Items::new(alloc);
-    if !text.is_empty() {
-        let text = String::from_str(alloc, text).expect(rt, FAILED);
-        items.push(Value::Str(Text::new(text))).expect(rt, FAILED);
+    for text in texts {
+        let value = from_text(alloc, text).expect(rt, FAILED);
+        items.push(value).expect(rt, FAILED);
     }
     items
 }
 
-// Are the arguments within the limits of a value?
-fn args_fit(alloc: Global, args: &[Value]) -> bool
-    ensures value { OnTrue result (ValueFits (v.List args.now)) }
-{
-    match copy_items(alloc, args) {
-        Ok(items) => {
-            let whole = Value::List(items);
-            whole.fits()
-        }
-        Err(_) => false,
-    }
-}
-
-/// Publishes a function of one text, or of none, for a target.
-pub fn publish(
+fn publish(
     rt: &impl Abort,
     alloc: Global,
     world: &mut World,
     sink: &mut MemSink,
     moment: u64,
-    tgt: Glob,
-    fun: &str,
-    arg: &str,
+    (kind, tgt): (Kind, &str),
+    (fun, args): (&str, &[&str]),
 ) -> Result<(), StepFault> {
+    let tgt = Text::new(String::from_str(alloc, tgt).expect(rt, FAILED));
     let fun = Word::read(alloc, fun).expect(rt, FAILED);
-    let args = arguments(rt, alloc, arg);
-    if !args_fit(alloc, args.as_slice()) {
-        panic!(rt; "{FAILED}");
-    }
-    world.step(
-        &Turn::Publish {
-            moment,
-            tgt,
-            fun,
-            args,
-        },
-        sink,
-    )
+    let args = arguments(rt, alloc, args);
+    let turn = Turn::Publish {
+        moment,
+        kind,
+        tgt,
+        fun,
+        args,
+    };
+    world.step(&turn, sink)
 }
 
-fn publish_for(
-    rt: &impl Abort,
-    alloc: Global,
+// The packets from the first number up to before the last, up to the first fault.
+fn deliver_each(
     world: &mut World,
     sink: &mut MemSink,
-    moment: u64,
-    tgt: &str,
-    fun: &str,
-    arg: &str,
+    first: u64,
+    last: u64,
 ) -> Result<(), StepFault> {
-    match target(rt, alloc, tgt) {
-        Some(tgt) => publish(rt, alloc, world, sink, moment, tgt, fun, arg),
-        None => Ok(()),
+    for packet in first..last {
+        world.step(&Turn::Deliver { packet }, sink)?;
     }
+    Ok(())
 }
 
 fn perform(
@@ -172,14 +191,45 @@ fn perform(
     play: Play,
 ) -> Result<(), StepFault> {
     match play {
-        Play::Publish(moment, tgt) => {
-            publish_for(rt, alloc, world, sink, moment, tgt, "test.ping", "")
+        Play::Publish(moment, kind, tgt) => {
+            publish(
+                rt,
+                alloc,
+                world,
+                sink,
+                moment,
+                (kind, tgt),
+                ("test.ping", &[]),
+            )
         }
-        Play::Run(moment, fun, arg) => publish_for(rt, alloc, world, sink, moment, "*", fun, arg),
+        Play::Repeat(moment, kind, part, count) => {
+            let tgt = repeated(rt, alloc, part, count);
+            publish(
+                rt,
+                alloc,
+                world,
+                sink,
+                moment,
+                (kind, tgt.as_str()),
+                ("test.ping", &[]),
+            )
+        }
+        Play::Run(moment, fun, args) => {
+            publish(
+                rt,
+                alloc,
+                world,
+                sink,
+                moment,
+                (Kind::Glob, "*"),
+                (fun, args),
+            )
+        }
         Play::Send(from, to, count) => {
             send(world, sink, NodeId::new(from), NodeId::new(to), count)
         }
         Play::Deliver(packet) => world.step(&Turn::Deliver { packet }, sink),
+        Play::DeliverEach(first, last) => deliver_each(world, sink, first, last),
         Play::Report(jid) => report(world, sink, jid),
         Play::Packet(packet) => world.step(&Turn::Packet { packet }, sink),
     }

@@ -2,6 +2,7 @@
 use script_text::{MOST_SCRIPT_BYTES, Script, ScriptFault, Turn, read_script};
 use std::alloc::Global;
 use std::process::Abort;
+use target_tree::Kind;
 
 // What is said where a step that must succeed doesn't.
 const FAILED: &str = "memory, or a right text";
@@ -52,10 +53,10 @@ fn told(turn: &Turn) -> (&'static str, u64, u64, u64) {
     }
 }
 
-// Is this the pattern of a publication, or the job id of a report? Other turns have none.
+// Is this the glob of a publication, or the job id of a report? Other turns have none.
 fn has_text(turn: &Turn, text: &str) -> bool {
     match turn {
-        Turn::Publish { tgt, .. } => tgt.text().as_str() == text,
+        Turn::Publish { kind, tgt, .. } => *kind == Kind::Glob && tgt.as_str() == text,
         Turn::Report { jid } => jid.text().as_slice() == text.as_bytes(),
         _ => text.is_empty(),
     }

@@ -3,20 +3,21 @@
 use crate::plays::{Play, Sown, perform_all, printed, world};
 use fleet_config::Role;
 use salt_outside::MemSink;
+use target_tree::Kind;
 
 // The syndic sa under the top, with the minion m1 and the syndic sb; m2 under sb, and m3 under the top.
 static TREE: [Sown; 5] = [
-    ("sa", Role::Syndic, 0),
-    ("m1", Role::Minion, 1),
-    ("sb", Role::Syndic, 1),
-    ("m2", Role::Minion, 3),
-    ("m3", Role::Minion, 0),
+    ("sa", Role::Syndic, 0, "{}", "{}"),
+    ("m1", Role::Minion, 1, "{}", "{}"),
+    ("sb", Role::Syndic, 1, "{}", "{}"),
+    ("m2", Role::Minion, 3, "{}", "{}"),
+    ("m3", Role::Minion, 0, "{}", "{}"),
 ];
 
 // One job for all minions. It goes down to sa, m1, sb and m2, each of which tells its count; then m1's return comes up
 // through sa, and m2's through sb and sa. The job doesn't reach m3.
 static PING: [Play; 33] = [
-    Play::Publish(1700000000000000, "m*"),
+    Play::Publish(1700000000000000, Kind::Glob, "m*"),
     // 0: the job for sa, and 1: sa's count
     Play::Send(0, 1, 9),
     Play::Deliver(0),

@@ -1,13 +1,14 @@
 //! Whole plays over a top with two minions. The expected text is worked out by hand from the rules of the network.
-use crate::plays::{FAILED, PAIR, Play, perform_all, printed, publish, target, world};
+use crate::plays::{FAILED, PAIR, Play, perform_all, printed, world};
 use salt_outside::MemSink;
 use std::alloc::Global;
 use std::process::Abort;
-use tree_world::{StepFault, World};
+use target_tree::Kind;
+use tree_world::StepFault;
 
 // The first job goes to both minions. m2 runs it, and its return comes twice; m1 answers last of all.
 static PING: [Play; 16] = [
-    Play::Publish(1700000000000000, "m*"),
+    Play::Publish(1700000000000000, Kind::Glob, "m*"),
     Play::Send(0, 1, 9),
     Play::Send(0, 2, 9),
     Play::Deliver(0),
@@ -27,7 +28,7 @@ static PING: [Play; 16] = [
 
 // One ping of m1, and then a packet of each kind, and two that are not there.
 static PACKETS: [Play; 16] = [
-    Play::Publish(1700000000000000, "*"),
+    Play::Publish(1700000000000000, Kind::Glob, "*"),
     Play::Send(0, 2, 1),
     Play::Deliver(0),
     Play::Send(2, 0, 3),
@@ -47,9 +48,9 @@ static PACKETS: [Play; 16] = [
 
 // Three jobs for m1: their packets come out of order and again, and so do its entries. What it counts is counted once for each job.
 static COUNTED: [Play; 20] = [
-    Play::Run(1700000000000000, "data.incr", "n"),
-    Play::Run(1700000000000000, "data.incr", "n"),
-    Play::Run(1700000000000000, "no.such", ""),
+    Play::Run(1700000000000000, "data.incr", &["\"n\""]),
+    Play::Run(1700000000000000, "data.incr", &["\"n\""]),
+    Play::Run(1700000000000000, "no.such", &[]),
     Play::Send(0, 2, 9),
     Play::Deliver(1),
     Play::Deliver(0),
@@ -80,10 +81,33 @@ report 20231114221320000002 no.such 1\n\
 m1 254 \"'no.such' is not available.\"\n";
 
 static LAST_JID: [Play; 3] = [
-    Play::Publish(253402300799999999, "*"),
-    Play::Publish(7, "*"),
+    Play::Publish(253402300799999999, Kind::Glob, "*"),
+    Play::Publish(7, Kind::Glob, "*"),
     Play::Report("19700101000000000000"),
 ];
+
+// Each limit of a target is passed by one, and then the longest one is published: its job goes to m2 and comes back.
+static LIMITS: [Play; 11] = [
+    Play::Repeat(1700000000000000, Kind::Glob, "*", 4097),
+    Play::Repeat(1700000000000000, Kind::Compound, "not ", 65),
+    Play::Repeat(1700000000000000, Kind::Compound, "x or ", 129),
+    Play::Repeat(1700000000000000, Kind::Compound, "E@a or ", 17),
+    Play::Repeat(1700000000000000, Kind::Glob, "*", 4096),
+    Play::Send(0, 1, 1),
+    Play::Deliver(0),
+    Play::Send(1, 0, 9),
+    Play::Deliver(3),
+    Play::Deliver(4),
+    Play::Report("20231114221320000000"),
+];
+
+static LIMITS_TEXT: &str = "refused publish Target TooLong\n\
+refused publish Target TooDeep\n\
+refused publish Target TooManyWords\n\
+refused publish Target TooManyPatterns\n\
+publish 20231114221320000000\n\
+report 20231114221320000000 test.ping 1\n\
+m2 0 true\n";
 
 static PING_TEXT: &str = "publish 20231114221320000000\n\
 report 20231114221320000000 test.ping 0\n\
@@ -137,60 +161,9 @@ fn a_refused_publication_and_an_unknown_job_are_told(rt: HostRuntime) {
     play(&rt, rt.alloc(), &LAST_JID, LAST_JID_TEXT);
 }
 
-// The job goes to m2 and comes back.
-static ROUND: [Play; 6] = [
-    Play::Send(0, 1, 1),
-    Play::Deliver(0),
-    Play::Send(1, 0, 9),
-    Play::Deliver(3),
-    Play::Deliver(4),
-    Play::Report("20231114221320000000"),
-];
-
-// Publishes the job for a target of so many stars. Is it a target?
-fn publish_stars(
-    rt: &impl Abort,
-    alloc: Global,
-    world: &mut World,
-    sink: &mut MemSink,
-    count: u32,
-) -> bool {
-    let mut text = String::new(alloc);
-    for _ in 0..count {
-        text.push('*').expect(rt, FAILED);
-    }
-    let Some(tgt) = target(rt, alloc, text.as_str()) else {
-        return false;
-    };
-    let moment = 1700000000000000;
-    publish(rt, alloc, world, sink, moment, tgt, "test.ping", "").is_ok()
-}
-
-// Targets of so many stars, and whether they are published.
-static STARS: [(u32, bool); 2] = [(4097, false), (4096, true)];
-
-fn publishes(rt: &impl Abort, alloc: Global, world: &mut World, sink: &mut MemSink) {
-    for (count, is_target) in &STARS {
-        assert_eq!(rt; publish_stars(rt, alloc, world, sink, *count), *is_target);
-    }
-}
-
 #[test]
 fn the_longest_target_is_sent(rt: HostRuntime) {
-    let alloc = rt.alloc();
-    let mut world = world(&rt, alloc, &PAIR);
-    let mut sink = MemSink::new(alloc, Vec::new(alloc));
-    publishes(&rt, alloc, &mut world, &mut sink);
-    let ended = perform_all(&rt, alloc, &mut world, &mut sink, &ROUND);
-    printed(
-        &rt,
-        &sink,
-        ended,
-        Ok(()),
-        "publish 20231114221320000000\n\
-report 20231114221320000000 test.ping 1\n\
-m2 0 true\n",
-    );
+    play(&rt, rt.alloc(), &LIMITS, LIMITS_TEXT);
 }
 
 #[test]

@@ -1,10 +1,14 @@
 //! Fleets: how they grow, and what they tell of their nodes.
-use crate::made::{FAILED, Sown, TREE, grown, id, pair, sow};
-use fleet_config::{Fleet, MOST_JOBS, NodeFault, Role};
-use salt_value::{MinionId, NodeId};
+use crate::made::{
+    FAILED, Given, HOLDERS, Sown, TREE, group, grown, id, pair, peopled, plant, sow, value,
+};
+use exec_functions::Holdings;
+use fleet_config::{Fleet, FleetNode, MOST_JOBS, MOST_JOURNAL_LIMIT, NodeFault, Role};
+use salt_value::{Fields, MinionId, NodeId, Value};
 use sqlite_items::Items;
 use std::alloc::{AllocError, Global};
 use std::process::Abort;
+use target_tree::GroupFault;
 
 // Nodes that are added in order to a fleet, and what it answers: the place, or why it stays as it was.
 static GROWTH: [(Sown, Result<u32, NodeFault>); 22] = [
@@ -33,11 +37,16 @@ static GROWTH: [(Sown, Result<u32, NodeFault>); 22] = [
 ];
 
 // Each answer, and one node more exactly after Ok.
-fn grows(rt: &impl Abort, fleet: &mut Fleet, rows: &[(Sown, Result<u32, NodeFault>)]) {
+fn grows(
+    rt: &impl Abort,
+    alloc: Global,
+    fleet: &mut Fleet,
+    rows: &[(Sown, Result<u32, NodeFault>)],
+) {
     for ((text, role, parent), answer) in rows {
         let before = fleet.count();
         let node = id(rt, text);
-        let added = sow(fleet, node, *role, *parent);
+        let added = sow(alloc, fleet, node, *role, *parent);
         let count = if answer.is_ok() { 1 } else { 0 };
         assert_eq!(rt;
             (added, fleet.count().saturating_sub(before)),
@@ -50,7 +59,7 @@ fn grows(rt: &impl Abort, fleet: &mut Fleet, rows: &[(Sown, Result<u32, NodeFaul
 #[test]
 fn a_fleet_grows_node_by_node(rt: HostRuntime) {
     let mut fleet = Fleet::new(rt.alloc());
-    grows(&rt, &mut fleet, &GROWTH);
+    grows(&rt, rt.alloc(), &mut fleet, &GROWTH);
 }
 
 // Adds nodes of this role under the top until one is refused: how many were added, and why no more.
@@ -63,7 +72,7 @@ fn fill(
 ) -> (u32, Result<u32, NodeFault>) {
     for n in 0..most {
         let text = format!(in alloc; "n{n}").expect(rt, FAILED);
-        let added = sow(fleet, id(rt, text.as_str()), role, Some(0));
+        let added = sow(alloc, fleet, id(rt, text.as_str()), role, Some(0));
         if added.is_err() {
             return (n, added);
         }
@@ -87,16 +96,228 @@ fn a_fleet_has_256_syndics_and_4096_minions_at_most(rt: HostRuntime) {
     }
 }
 
-fn limits(rt: &impl Abort, fleet: &Fleet, max_jobs: u32) {
-    assert_eq!(rt; fleet.max_jobs(), max_jobs);
+fn has_limits(rt: &impl Abort, fleet: &Fleet, max_jobs: u32, journal_limit: u64) {
+    assert_eq!(rt;
+        (fleet.max_jobs(), fleet.journal_limit()),
+        (max_jobs, journal_limit)
+    );
 }
 
 #[test]
-fn a_fleet_says_how_many_jobs_its_top_holds(rt: HostRuntime) {
+fn a_fleet_says_how_many_jobs_and_bytes_there_may_be(rt: HostRuntime) {
     let mut fleet = Fleet::new(rt.alloc());
-    limits(&rt, &fleet, MOST_JOBS);
-    fleet.limit_jobs(2);
-    limits(&rt, &fleet, 2);
+    has_limits(&rt, &fleet, MOST_JOBS, MOST_JOURNAL_LIMIT);
+    fleet.limits(1, 64);
+    has_limits(&rt, &fleet, 1, 64);
+    fleet.limits(65_535, 1_073_741_824);
+    has_limits(&rt, &fleet, 65_535, 1_073_741_824);
+}
+
+// Nodegroups that are added in order, and what the fleet answers.
+static GROUPS: [(&str, &str, Option<GroupFault>); 3] = [
+    ("web", "w*", None),
+    ("db", "N@web", None),
+    ("web", "x*", Some(GroupFault::Twice)),
+];
+
+static FOUND: [(&str, Option<&str>); 3] = [("web", Some("w*")), ("db", Some("N@web")), ("w", None)];
+
+fn has_groups(rt: &impl Abort, fleet: &Fleet, rows: &[(&str, Option<&str>)]) {
+    for (name, wanted) in rows {
+        let found = match fleet.groups().find(name) {
+            Some(text) => Some(text.as_str()),
+            None => None,
+        };
+        assert_eq!(rt; found, *wanted, "{name}");
+    }
+}
+
+#[test]
+fn a_fleet_has_nodegroups(rt: HostRuntime) {
+    let mut fleet = Fleet::new(rt.alloc());
+    for (name, text, fault) in &GROUPS {
+        assert_eq!(rt; group(&rt, rt.alloc(), &mut fleet, name, text), *fault);
+    }
+    has_groups(&rt, &fleet, &FOUND);
+}
+
+// A part of what a minion holds.
+#[derive(Clone, Copy, Debug)]
+enum Part {
+    Grains,
+    Pillar,
+    Store,
+    Mine,
+}
+
+// One part is a map of a value under a key of one byte, and the others are empty.
+fn holding(rt: &impl Abort, alloc: Global, part: Part, given: Given) -> Holdings {
+    let fields = Fields::new(alloc)
+        .with(alloc, "k", value(rt, alloc, given))
+        .expect(rt, FAILED);
+    let mut held = Holdings::none(alloc);
+    match part {
+        Part::Grains => held.grains = fields,
+        Part::Pillar => held.pillar = fields,
+        Part::Store => held.store = fields,
+        Part::Mine => held.mine = fields,
+    }
+    held
+}
+
+// Minions that hold this, under the node at this place of the flat tree, and what the fleet answers.
+type Heavy = (&'static str, u32, Part, Given, Result<u32, NodeFault>);
+
+static HEAVY: [Heavy; 9] = [
+    (
+        "m3",
+        0,
+        Part::Grains,
+        Given::Levels(32),
+        Err(NodeFault::TooLarge),
+    ),
+    (
+        "m3",
+        0,
+        Part::Grains,
+        Given::Bytes(65_522),
+        Err(NodeFault::TooLarge),
+    ),
+    (
+        "m3",
+        0,
+        Part::Pillar,
+        Given::Levels(32),
+        Err(NodeFault::TooLarge),
+    ),
+    (
+        "m3",
+        0,
+        Part::Store,
+        Given::Bytes(65_522),
+        Err(NodeFault::TooLarge),
+    ),
+    (
+        "m3",
+        0,
+        Part::Mine,
+        Given::Levels(32),
+        Err(NodeFault::TooLarge),
+    ),
+    // every other cause comes first
+    (
+        "m3",
+        1,
+        Part::Grains,
+        Given::Levels(32),
+        Err(NodeFault::NoParent),
+    ),
+    (
+        "m1",
+        0,
+        Part::Grains,
+        Given::Levels(32),
+        Err(NodeFault::TwiceId),
+    ),
+    ("m3", 0, Part::Grains, Given::Levels(31), Ok(3)),
+    ("m4", 0, Part::Mine, Given::Bytes(65_521), Ok(4)),
+];
+
+fn add_heavy(
+    rt: &impl Abort,
+    alloc: Global,
+    fleet: &mut Fleet,
+    row: &Heavy,
+) -> Result<u32, NodeFault> {
+    let node = FleetNode {
+        id: id(rt, row.0),
+        role: Role::Minion,
+        parent: Some(NodeId::new(row.1)),
+        port: 0,
+        held: holding(rt, alloc, row.2, row.3),
+    };
+    plant(fleet, node)
+}
+
+// Each answer, and one node more exactly after Ok.
+fn holds_at_most(rt: &impl Abort, alloc: Global, fleet: &mut Fleet, rows: &[Heavy]) {
+    for (i, row) in rows.iter().enumerate() {
+        let before = fleet.count();
+        let added = add_heavy(rt, alloc, fleet, row);
+        let count = if row.4.is_ok() { 1 } else { 0 };
+        let more = fleet.count().saturating_sub(before);
+        assert_eq!(rt; (added, more), (row.4, count), "row {i}");
+    }
+}
+
+#[test]
+fn a_minion_holds_32_levels_and_65536_bytes_at_most(rt: HostRuntime) {
+    let mut fleet = pair(&rt, rt.alloc());
+    holds_at_most(&rt, rt.alloc(), &mut fleet, &HEAVY);
+}
+
+// What a node holds under a key of its grains and of its pillar.
+fn held(fleet: &Fleet, place: u32) -> (Option<&str>, Option<&str>) {
+    if place >= fleet.count() {
+        return (None, None);
+    }
+    let held = fleet.held(NodeId::new(place));
+    (
+        text_in(held.grains.get(b"os")),
+        text_in(held.pillar.get(b"role")),
+    )
+}
+
+fn text_in(value: Option<&Value>) -> Option<&str> {
+    match value {
+        Some(Value::Str(text)) => Some(text.as_str()),
+        _ => None,
+    }
+}
+
+static HELD: [(u32, (Option<&str>, Option<&str>)); 3] = [
+    (0, (None, None)),
+    (1, (Some("Arch"), Some("web"))),
+    (2, (Some("Debian"), Some("db"))),
+];
+
+#[test]
+fn a_fleet_says_what_its_minions_hold_at_first(rt: HostRuntime) {
+    let fleet = peopled(&rt, rt.alloc(), &HOLDERS);
+    for (place, wanted) in &HELD {
+        assert_eq!(rt; held(&fleet, *place), *wanted, "at {place}");
+    }
+}
+
+// A top that listens at this port, and a minion that says nothing of one.
+fn listening(rt: &impl Abort, alloc: Global, port: u16) -> Fleet {
+    let mut fleet = Fleet::new(alloc);
+    let top = FleetNode {
+        id: id(rt, "top"),
+        role: Role::Top,
+        parent: None,
+        port,
+        held: Holdings::none(alloc),
+    };
+    plant(&mut fleet, top).expect(rt, FAILED);
+    sow(alloc, &mut fleet, id(rt, "m1"), Role::Minion, Some(0)).expect(rt, FAILED);
+    fleet
+}
+
+fn has_port(rt: &impl Abort, fleet: &Fleet, place: u32, port: u16) {
+    if place >= fleet.count() {
+        panic!(rt; "{FAILED}");
+    }
+    assert_eq!(rt; fleet.port(NodeId::new(place)), port, "at {place}");
+}
+
+#[test]
+fn a_fleet_says_where_its_masters_listen(rt: HostRuntime) {
+    for port in [0, 1, 4505, 65_535] {
+        let fleet = listening(&rt, rt.alloc(), port);
+        has_port(&rt, &fleet, 0, port);
+        has_port(&rt, &fleet, 1, 0);
+    }
 }
 
 // The place of the node with this id, and 99 where there is none.

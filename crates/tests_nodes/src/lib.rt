@@ -10,6 +10,8 @@ mod minions;
 #[cfg(test)]
 mod nodes;
 #[cfg(test)]
+mod orders;
+#[cfg(test)]
 mod steps;
 #[cfg(test)]
 mod syndics;

@@ -1,17 +1,18 @@
-//! What the tests make: ids, fleets, targets, and jobs.
-ghost use Rattle.std.specs.Bool.{OnTrue};
+//! What the tests make: ids, values, fleets, what minions hold, and jobs.
+ghost use Rattle.std.specs.Prelude.{◌≤◌, length};
 ghost use Rattle.salt_value.specs.WellFormed.{ValueFits};
 ghost use Rattle.salt_value.specs.declared.value.Value.TheVariants as v;
-ghost use Rattle.salt_wire.specs.Limits.{JobFits};
+ghost use Rattle.exec_functions.specs.Limits.{AreWithin};
+ghost use Rattle.salt_wire.specs.Limits.{JobFits, TreeFits, most_target_bytes};
 
+use exec_functions::Holdings;
 use fleet_config::{Fleet, FleetNode, NodeFault, Role};
-use node_core::Glob;
-use salt_value::{Items, Jid, MinionId, NodeId, Text, Value, Word, copy_items};
-use salt_wire::Job;
+use salt_value::{Fields, Items, Jid, MinionId, NodeId, Text, Value, Word, list_fits};
+use salt_wire::{Job, tree_fits};
 use sqlite_items::Boxed;
 use std::alloc::Global;
 use std::process::Abort;
-use target_tree::{Kind, Target};
+use target_tree::{GroupFault, Groups, Kind, MOST_TEXT_BYTES, Target, read_target};
 
 /// What is said where a step that must succeed doesn't.
 pub const FAILED: &str = "memory, or a right text";
@@ -36,9 +37,64 @@ pub static PAIR: [Sown; 3] = [
     ("m1", Role::Minion, Some(0)),
 ];
 
+/// Texts under their keys.
+pub type Texts = &'static [(&'static str, &'static str)];
+
+/// A minion, with its grains and its pillar.
+pub type Holder = (&'static str, Texts, Texts);
+
+/// Two minions that hold other grains and other pillars.
+pub static HOLDERS: [Holder; 2] = [
+    ("m2", &[("os", "Arch")], &[("role", "web")]),
+    ("m1", &[("os", "Debian")], &[("role", "db")]),
+];
+
+/// What is given as an argument, or as a part of what a minion holds.
+#[derive(Clone, Copy, Debug)]
+pub enum Given {
+    /// Nothing.
+    Nothing,
+    /// Lists in one another, so many levels deep.
+    Levels(u32),
+    /// A text of so many bytes.
+    Bytes(u32),
+}
+
 /// The id that a text is.
 pub fn id(rt: &impl Abort, text: &str) -> MinionId {
     MinionId::read(text).expect(rt, FAILED)
+}
+
+/// The text that these bytes are.
+pub fn text(rt: &impl Abort, alloc: Global, text: &str) -> Text {
+    Text::new(String::from_str(alloc, text).expect(rt, FAILED))
+}
+
+fn nested(rt: &impl Abort, alloc: Global, levels: u32) -> Value {
+    let mut value = Value::List(Items::new(alloc));
+    for _ in 1..levels {
+        let mut items = Items::new(alloc);
+        items.push(value).expect(rt, FAILED);
+        value = Value::List(items);
+    }
+    value
+}
+
+fn long(rt: &impl Abort, alloc: Global, length: u32) -> Value {
+    let mut text = String::new(alloc);
+    for _ in 0..length {
+        text.push('x').expect(rt, FAILED);
+    }
+    Value::Str(Text::new(text))
+}
+
+/// The value that is given.
+pub fn value(rt: &impl Abort, alloc: Global, given: Given) -> Value {
+    match given {
+        Given::Nothing => Value::Null,
+        Given::Levels(levels) => nested(rt, alloc, levels),
+        Given::Bytes(length) => long(rt, alloc, length),
+    }
 }
 
 /// A top with the minions m2 and m1, in this order.
@@ -46,8 +102,9 @@ pub fn pair(rt: &impl Abort, alloc: Global) -> Fleet {
     grown(rt, alloc, &PAIR)
 }
 
-/// What a fleet answers where this node is added.
+/// What a fleet answers where this node, which holds nothing, is added.
 pub fn sow(
+    alloc: Global,
     fleet: &mut Fleet,
     id: MinionId,
     role: Role,
@@ -57,26 +114,84 @@ pub fn sow(
         Some(place) => Some(NodeId::new(place)),
         None => None,
     };
-    match fleet.add(FleetNode { id, role, parent }) {
+    let held = Holdings::none(alloc);
+    plant(
+        fleet,
+        FleetNode {
+            id,
+            role,
+            parent,
+            port: 0,
+            held,
+        },
+    )
+}
+
+/// The place at which a node is added, or why it isn't.
+pub fn plant(fleet: &mut Fleet, node: FleetNode) -> Result<u32, NodeFault> {
+    match fleet.add(node) {
         Ok(place) => Ok(place.place()),
         Err(fault) => Err(fault),
     }
 }
 
-/// A fleet of these nodes.
+/// A fleet of these nodes, which hold nothing.
 pub fn grown(rt: &impl Abort, alloc: Global, nodes: &[Sown]) -> Fleet {
     let mut fleet = Fleet::new(alloc);
     for (text, role, parent) in nodes {
         let node = id(rt, text);
-        sow(&mut fleet, node, *role, *parent).expect(rt, FAILED);
+        sow(alloc, &mut fleet, node, *role, *parent).expect(rt, FAILED);
     }
     fleet
 }
 
-/// A target of this glob.
-pub fn target(rt: &impl Abort, alloc: Global, text: &str) -> Glob {
-    let text = String::from_str(alloc, text).expect(rt, FAILED);
-    Glob::new(Text::new(text)).expect(rt, FAILED)
+fn fields(rt: &impl Abort, alloc: Global, texts: &[(&'static str, &'static str)]) -> Fields {
+    let mut fields = Fields::new(alloc);
+    for (key, under) in texts {
+        let value = Value::Str(text(rt, alloc, under));
+        fields = fields.with(alloc, key, value).expect(rt, FAILED);
+    }
+    fields
+}
+
+/// What holds these grains and this pillar, and nothing else.
+pub fn holdings(rt: &impl Abort, alloc: Global, grains: Texts, pillar: Texts) -> Holdings
+    ensures fits { AreWithin result }
+{
+    let mut held = Holdings::none(alloc);
+    held.grains = fields(rt, alloc, grains);
+    held.pillar = fields(rt, alloc, pillar);
+    if !held.fits() {
+        panic!(rt; "{FAILED}");
+    }
+    held
+}
+
+/// A top with these minions under it.
+pub fn peopled(rt: &impl Abort, alloc: Global, holders: &[Holder]) -> Fleet {
+    let mut fleet = grown(rt, alloc, &PAIR[..1]);
+    for (text, grains, pillar) in holders {
+        let node = FleetNode {
+            id: id(rt, text),
+            role: Role::Minion,
+            parent: Some(NodeId::TOP),
+            port: 0,
+            held: holdings(rt, alloc, grains, pillar),
+        };
+        plant(&mut fleet, node).expect(rt, FAILED);
+    }
+    fleet
+}
+
+/// Adds a nodegroup to a fleet, or tells why it isn't added.
+pub fn group(
+    rt: &impl Abort,
+    alloc: Global,
+    fleet: &mut Fleet,
+    name: &str,
+    of: &str,
+) -> Option<GroupFault> {
+    fleet.add_group(id(rt, name), text(rt, alloc, of)).err()
 }
 
 /// The word that a text is.
@@ -84,65 +199,99 @@ pub fn word(rt: &impl Abort, alloc: Global, text: &str) -> Word {
     Word::read(alloc, text).expect(rt, FAILED)
 }
 
-/// One text as an argument, and no argument where the text is empty.
-pub fn arguments(rt: &impl Abort, alloc: Global, text: &str) -> Items {
+/// These texts as arguments.
+pub fn arguments(rt: &impl Abort, alloc: Global, texts: &[&'static str]) -> Items {
     let mut items = Items::new(alloc);
-    if !text.is_empty() {
-        let text = String::from_str(alloc, text).expect(rt, FAILED);
-        items.push(Value::Str(Text::new(text))).expect(rt, FAILED);
+    for argument in texts {
+        items
+            .push(Value::Str(text(rt, alloc, argument)))
+            .expect(rt, FAILED);
     }
     items
 }
 
-// Are the arguments within the limits of a value?
-fn args_fit(alloc: Global, args: &[Value]) -> bool
-    ensures value { OnTrue result (ValueFits (v.List args.now)) }
+// The tree of a target's text, within the limits of a job's.
+fn tree(rt: &impl Abort, alloc: Global, kind: Kind, tgt: &str) -> Boxed<Target>
+    ensures value { TreeFits result }
 {
-    match copy_items(alloc, args) {
-        Ok(items) => {
-            let whole = Value::List(items);
-            whole.fits()
-        }
-        Err(_) => false,
+    let groups = Groups::new(alloc);
+    let tree = Boxed::new(
+        alloc,
+        read_target(alloc, kind, tgt, &groups).expect(rt, FAILED),
+    )
+    .expect(rt, FAILED);
+    if !tree_fits(tree.get()) {
+        panic!(rt; "{FAILED}");
     }
+    tree
 }
 
-// A job for all minions.
-fn job_for_all(
+// A job with this tree.
+fn job_of(
     rt: &impl Abort,
     alloc: Global,
     moment: u64,
-    tgt: &Glob,
+    kind: Kind,
+    tgt: &str,
+    tree: Boxed<Target>,
     fun: Word,
     args: Items,
 ) -> Job
-    requires { ValueFits (v.List args) }
+    requires short { length tgt.now ≤ most_target_bytes }
+    requires tree { TreeFits tree }
+    requires args { ValueFits (v.List args) }
     ensures value { JobFits result }
 {
     let jid = Jid::next(None, moment).expect(rt, FAILED);
+    let tgt = text(rt, alloc, tgt);
     let _micros = jid.micros();
-    let _text = tgt.text().as_str();
+    let _text = tgt.as_str();
     let _word = fun.as_bytes();
     Job {
         jid,
-        kind: Kind::Glob,
-        tgt: tgt.text().copy().expect(rt, FAILED),
-        target: Boxed::new(alloc, Target::IdGlob(tgt.text().copy().expect(rt, FAILED))).expect(
-            rt, FAILED,
-        ),
+        kind,
+        tgt,
+        target: tree,
         fun,
         args,
     }
 }
 
-/// A job of this function and argument for all minions, with the jid of this moment.
-pub fn job(rt: &impl Abort, alloc: Global, moment: u64, fun: &str, arg: &str) -> Job
+/// A job of this function with these arguments, for the minions that a target's text of this kind means, with the jid of this moment.
+pub fn job_for(
+    rt: &impl Abort,
+    alloc: Global,
+    moment: u64,
+    kind: Kind,
+    tgt: &str,
+    fun: &str,
+    args: &[&'static str],
+) -> Job
     ensures value { JobFits result }
 {
-    let args = arguments(rt, alloc, arg);
-    if !args_fit(alloc, args.as_slice()) {
+    let args = arguments(rt, alloc, args);
+    if !list_fits(args.as_slice()) {
         panic!(rt; "{FAILED}");
     }
-    let tgt = target(rt, alloc, "*");
-    job_for_all(rt, alloc, moment, &tgt, word(rt, alloc, fun), args)
+    if tgt.len() > MOST_TEXT_BYTES {
+        panic!(rt; "{FAILED}");
+    }
+    let tree = tree(rt, alloc, kind, tgt);
+    job_of(
+        rt,
+        alloc,
+        moment,
+        kind,
+        tgt,
+        tree,
+        word(rt, alloc, fun),
+        args,
+    )
+}
+
+/// The same for all minions.
+pub fn job(rt: &impl Abort, alloc: Global, moment: u64, fun: &str, args: &[&'static str]) -> Job
+    ensures value { JobFits result }
+{
+    job_for(rt, alloc, moment, Kind::Glob, "*", fun, args)
 }

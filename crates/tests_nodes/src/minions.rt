@@ -1,15 +1,18 @@
 //! Minions, and the flat fleet that every report is measured by.
+ghost use Rattle.std.specs.Prelude.{◌≡◌, ◌++◌, map, OnOk};
 ghost use Rattle.minion_core.specs.Limits.{DeedFits};
 ghost use Rattle.salt_wire.specs.Limits.{JobFits};
 
-use crate::made::{FAILED, id, job};
+use crate::made::{FAILED, HOLDERS, holdings, id, job, job_for};
 use exec_functions::Holdings;
 use flat_fleet::{FlatMinion, FlatReport, first_jobs_decide, flat_reports};
-use minion_core::{MinionCore, does_hold, flat_by_steps, nothing_held};
+use minion_core::{MinionCore, RunFault, does_hold, does_hold_with, flat_by_steps};
 use salt_value::{MinionId, Row, Value};
 use salt_wire::{Deed, Job};
-use std::alloc::Global;
+use std::alloc::{AllocError, Global};
 use std::process::Abort;
+use target_match::Matcher;
+use target_tree::Kind;
 
 // The number that a value is, and -1 of another one.
 fn number_of(value: Option<&Value>) -> i64 {
@@ -40,9 +43,9 @@ fn take_in(rt: &impl Abort, minion: &mut MinionCore, deed: &Deed) -> u32
 #[test]
 fn a_minion_keeps_what_its_jobs_change(rt: HostRuntime) {
     let alloc = rt.alloc();
-    let mut minion = MinionCore::new(alloc, nothing_held(alloc));
+    let mut minion = MinionCore::new(alloc, Holdings::none(alloc));
     let me = id(&rt, "m1");
-    let count = job(&rt, alloc, 1, "data.incr", "n");
+    let count = job(&rt, alloc, 1, "data.incr", &["n"]);
     flat_by_steps();
     run_all(&rt, &mut minion, &me, &count);
     see_minion(&rt, &minion);
@@ -79,62 +82,221 @@ fn see_minion(rt: &impl Abort, minion: &MinionCore) {
     assert_eq!(rt; seen, (1, 2, 3, 2));
 }
 
+// Has the record an entry?
+fn has_entries(deed: &Deed) -> bool {
+    match deed {
+        Deed::Done { entries, .. } => !entries.as_slice().is_empty(),
+        _ => false,
+    }
+}
+
+// Whether a minion runs a job, as its record tells.
+fn does_run(minion: &MinionCore, me: &MinionId, job: &Job) -> Result<bool, RunFault>
+    requires { JobFits job.now }
+{
+    match minion.run(me, job) {
+        Ok(deed) => Ok(has_entries(&deed)),
+        Err(fault) => Err(fault),
+    }
+}
+
+// The same by the target alone.
+fn is_meant(
+    alloc: Global,
+    minion: &MinionCore,
+    me: &MinionId,
+    job: &Job,
+) -> Result<bool, RunFault> {
+    does_hold(alloc, job, me, minion.held())
+}
+
+// The same by a matcher, if there is one.
+fn is_meant_with(alloc: Global, minion: &MinionCore, me: &MinionId, job: &Job) -> Option<bool> {
+    match Matcher::build(alloc, job.target.get()) {
+        Ok(matcher) => does_hold_with(&matcher, job, me, minion.held()).ok(),
+        Err(_) => None,
+    }
+}
+
+// The kind and the text of a target, and whether m1 runs a job that is meant for it.
+type Meant = (Kind, &'static str, Result<bool, RunFault>);
+
+static MEANT: [Meant; 9] = [
+    (Kind::Glob, "m?", Ok(true)),
+    (Kind::List, "m2", Ok(false)),
+    (Kind::Grain, "os:debian", Ok(true)),
+    (Kind::Pillar, "role:web", Ok(false)),
+    (Kind::Compound, "G@os:debian and not I@role:web", Ok(true)),
+    (Kind::Pcre, "(", Err(RunFault::BadPattern { leaf: 0 })),
+    (
+        Kind::Compound,
+        "m* or E@(",
+        Err(RunFault::BadPattern { leaf: 1 }),
+    ),
+    (
+        Kind::Compound,
+        "m* or E@a or J@role:(a{1000}){1000}",
+        Err(RunFault::TooBig { leaf: 2 }),
+    ),
+    (Kind::PillarPcre, "role:d", Ok(true)),
+];
+
+fn runs_what_is_meant(rt: &impl Abort, alloc: Global, minion: &MinionCore, rows: &[Meant]) {
+    let me = id(rt, "m1");
+    for (kind, tgt, wanted) in rows {
+        let job = job_for(rt, alloc, 1, *kind, tgt, "test.ping", &[]);
+        let told = (
+            is_meant(alloc, minion, &me, &job),
+            does_run(minion, &me, &job),
+            is_meant_with(alloc, minion, &me, &job),
+        );
+        assert_eq!(rt; told, (*wanted, *wanted, wanted.ok()), "at {tgt}");
+    }
+}
+
 #[test]
-fn a_flat_fleet_runs_each_job_on_each_minion(rt: HostRuntime) {
+fn a_minion_runs_the_jobs_that_are_meant_for_it(rt: HostRuntime) {
+    let alloc = rt.alloc();
+    let held = holdings(&rt, alloc, HOLDERS[1].1, HOLDERS[1].2);
+    let minion = MinionCore::new(alloc, held);
+    runs_what_is_meant(&rt, alloc, &minion, &MEANT);
+}
+
+static RUN_TEXTS: [(RunFault, &str); 3] = [
+    (RunFault::NoMemory, "no memory was found"),
+    (
+        RunFault::BadPattern { leaf: 3 },
+        "the pattern of leaf 3 cannot be read",
+    ),
+    (
+        RunFault::TooBig { leaf: 3 },
+        "the pattern of leaf 3 is too big",
+    ),
+];
+
+#[test]
+fn run_faults_have_texts(rt: HostRuntime) {
+    for (fault, text) in &RUN_TEXTS {
+        let said = fault.to_string(rt.alloc()).expect(&rt, FAILED);
+        assert_eq!(rt; said.as_str(), *text);
+    }
+}
+
+// What a flat fleet is told: the kind and the text of a target, a function and its arguments.
+type Order = (Kind, &'static str, &'static str, &'static [&'static str]);
+
+// The report of a job: its function, and what each minion with a row answers, -1 where that is no number.
+type Report = (&'static str, &'static [(&'static str, i64)]);
+
+static COUNTING: [Order; 2] = [
+    (Kind::Glob, "*", "data.incr", &["n"]),
+    (Kind::Glob, "*", "data.incr", &["n"]),
+];
+
+static COUNTED: [Report; 2] = [
+    ("data.incr", &[("m2", 1), ("m1", 1)]),
+    ("data.incr", &[("m2", 2), ("m1", 2)]),
+];
+
+// Jobs for what the minions hold then.
+static TARGETED: [Order; 6] = [
+    (Kind::Grain, "os:arch", "data.incr", &["n"]),
+    (Kind::Pillar, "role:db", "data.incr", &["n"]),
+    (
+        Kind::Compound,
+        "m1 and G@os:debian",
+        "grains.setval",
+        &["os", "Arch"],
+    ),
+    (Kind::GrainPcre, "os:A", "data.incr", &["n"]),
+    (Kind::Grain, "os:debian", "data.incr", &["n"]),
+    (Kind::List, "m3,m2", "data.incr", &["n"]),
+];
+
+static TARGETED_REPORTS: [Report; 6] = [
+    ("data.incr", &[("m2", 1)]),
+    ("data.incr", &[("m1", 1)]),
+    ("grains.setval", &[("m1", -1)]),
+    ("data.incr", &[("m2", 2), ("m1", 2)]),
+    ("data.incr", &[]),
+    ("data.incr", &[("m2", 3)]),
+];
+
+#[test]
+fn a_flat_fleet_runs_each_job_where_it_is_meant(rt: HostRuntime) {
     let alloc = rt.alloc();
     let fleet = fleet(&rt, alloc);
-    let jobs = jobs(&rt, alloc);
     first_jobs_decide();
-    let reports = flat_reports(alloc, &fleet, &jobs).expect(&rt, FAILED);
-    see_reports(&rt, &reports);
+    see_reports(&rt, &reports(&rt, alloc, &fleet, &COUNTING), &COUNTED);
+    see_reports(
+        &rt,
+        &reports(&rt, alloc, &fleet, &TARGETED),
+        &TARGETED_REPORTS,
+    );
 }
 
 fn fleet(rt: &impl Abort, alloc: Global) -> Vec<FlatMinion> {
     let mut fleet = Vec::new(alloc);
-    for text in &["m2", "m1"] {
+    for (text, grains, pillar) in &HOLDERS {
         let minion = FlatMinion {
             id: id(rt, text),
-            held: nothing_held(alloc),
+            held: holdings(rt, alloc, grains, pillar),
         };
         fleet.push(minion).expect(rt, FAILED);
     }
     fleet
 }
 
-fn jobs(rt: &impl Abort, alloc: Global) -> Vec<Job> {
+// The jid of each job is the moment that is its number.
+fn jobs(rt: &impl Abort, alloc: Global, orders: &[Order]) -> Vec<Job> {
     let mut jobs = Vec::new(alloc);
-    for moment in 1..3 {
-        jobs.push(job(rt, alloc, moment, "data.incr", "n"))
+    for (i, (kind, tgt, fun, args)) in orders.iter().enumerate() {
+        jobs.push(job_for(rt, alloc, i as u64, *kind, tgt, fun, args))
             .expect(rt, FAILED);
     }
     jobs
 }
 
-fn see_reports(rt: &impl Abort, reports: &[FlatReport]) {
-    assert_eq!(rt; reports.len(), 2);
-    for report in reports {
-        see_report(rt, report);
+// The matcher of each job more.
+fn push_matchers(alloc: Global, jobs: &[Job], matchers: &mut Vec<Matcher>) -> Result<(), AllocError>
+    ensures ok { OnOk result (matchers.new.items ≡ matchers.old.items ++ map (λ job. job.target) jobs.now) }
+{
+    for job in jobs {
+        let Ok(matcher) = Matcher::build(alloc, job.target.get()) else {
+            return Err(AllocError);
+        };
+        matchers.push(matcher)?;
+    }
+    Ok(())
+}
+
+fn reports(
+    rt: &impl Abort,
+    alloc: Global,
+    fleet: &[FlatMinion],
+    orders: &[Order],
+) -> Vec<FlatReport> {
+    let jobs = jobs(rt, alloc, orders);
+    let mut matchers = Vec::new(alloc);
+    push_matchers(alloc, &jobs, &mut matchers).expect(rt, FAILED);
+    flat_reports(alloc, fleet, &jobs, &matchers).expect(rt, FAILED)
+}
+
+fn see_reports(rt: &impl Abort, reports: &[FlatReport], wanted: &[Report]) {
+    assert_eq!(rt; reports.len(), wanted.len());
+    for (i, (report, (fun, rows))) in reports.iter().zip(wanted.iter()).enumerate() {
+        let of = (report.jid.micros(), report.fun.as_str());
+        assert_eq!(rt; of, (i as u64, *fun));
+        see_rows(rt, report.rows.as_slice(), rows);
     }
 }
 
-// Job number n answers n + 1 on both minions, in the order of the fleet.
-fn see_report(rt: &impl Abort, report: &FlatReport) {
-    assert_eq!(rt; report.fun.as_str(), "data.incr");
-    see_rows(rt, report.rows.as_slice(), report.jid.micros() as i64);
-}
-
-fn see_rows(rt: &impl Abort, rows: &[Row], number: i64) {
-    match rows {
-        [first, second] => {
-            let ids = (first.id.as_str(), second.id.as_str());
-            assert_eq!(rt; ids, ("m2", "m1"));
-            let numbers = (answer_of(first), answer_of(second));
-            assert_eq!(rt; numbers, (number, number));
-        }
-        _ => panic!(rt; "{FAILED}"),
+fn see_rows(rt: &impl Abort, found: &[Row], wanted: &[(&'static str, i64)]) {
+    assert_eq!(rt; found.len(), wanted.len());
+    for (row, (name, number)) in found.iter().zip(wanted.iter()) {
+        assert_eq!(rt;
+            (row.id.as_str(), number_of(Some(&row.outcome.value))),
+            (*name, *number)
+        );
     }
-}
-
-fn answer_of(row: &Row) -> i64 {
-    number_of(Some(&row.outcome.value))
 }

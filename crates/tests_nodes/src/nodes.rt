@@ -1,16 +1,17 @@
 //! The nodes of a flat fleet, step by step. The expectations are worked out by hand from the rules of a call.
-use crate::made::{FAILED, pair, target, word};
+use crate::made::{FAILED, pair, word};
 use crate::steps::{Asked, Reply, Sent, Step, has_jobs, has_outcomes, has_returns, takes, tells};
 use fleet_config::Fleet;
-use node_core::{Glob, Node, PendFault, PublishFault, Stray, TakeFault};
+use node_core::{Node, PendFault, PublishFault, PublishRefusal, Stray, TakeFault};
 use salt_value::{NodeId, Word};
 use std::alloc::Global;
 use std::process::Abort;
+use target_tree::{Kind, TargetFault};
 
 // How many of so many publications are accepted before one is refused.
-fn publish(top: &mut Node, fleet: &Fleet, tgt: &Glob, ping: &Word, count: u32) -> u32 {
+fn publish(top: &mut Node, fleet: &Fleet, tgt: &str, ping: &Word, count: u32) -> u32 {
     for done in 0..count {
-        if top.publish(fleet, 7, tgt, ping, &[]).is_err() {
+        if top.publish(fleet, 7, Kind::Glob, tgt, ping, &[]).is_err() {
             return done;
         }
     }
@@ -20,13 +21,7 @@ fn publish(top: &mut Node, fleet: &Fleet, tgt: &Glob, ping: &Word, count: u32) -
 // A top that published so many jobs.
 fn published(rt: &impl Abort, alloc: Global, fleet: &Fleet, tgt: &str, count: u32) -> Node {
     let mut top = Node::start(alloc, fleet, NodeId::TOP).expect(rt, FAILED);
-    publish(
-        &mut top,
-        fleet,
-        &target(rt, alloc, tgt),
-        &word(rt, alloc, "test.ping"),
-        count,
-    );
+    publish(&mut top, fleet, tgt, &word(rt, alloc, "test.ping"), count);
     top
 }
 
@@ -130,15 +125,14 @@ fn a_top_tells_each_child_the_jobs_it_lacks(rt: HostRuntime) {
     tells(&rt, &top, &fleet, 0, &DOWNWARD);
 }
 
-// The text of the jid of a publication.
+// The text of the jid of a publication for all minions.
 fn jid_text(
     top: &mut Node,
     fleet: &Fleet,
     moment: u64,
-    tgt: &Glob,
     ping: &Word,
 ) -> Result<[u8; 20], PublishFault> {
-    match top.publish(fleet, moment, tgt, ping, &[]) {
+    match top.publish(fleet, moment, Kind::Glob, "*", ping, &[]) {
         Ok(jid) => Ok(jid.text()),
         Err(fault) => Err(fault),
     }
@@ -147,32 +141,31 @@ fn jid_text(
 // Publications at these moments, and the jid of each or its fault.
 fn publishes(
     rt: &impl Abort,
-    top: &mut Node,
-    fleet: &Fleet,
-    tgt: &Glob,
-    ping: &Word,
-    rows: &[(u64, Result<[u8; 20], PublishFault>)],
-) {
-    for (moment, jid) in rows {
-        assert_eq!(rt; jid_text(top, fleet, *moment, tgt, ping), *jid);
-    }
-}
-
-fn publishes_ping(
-    rt: &impl Abort,
     alloc: Global,
     top: &mut Node,
     fleet: &Fleet,
     rows: &[(u64, Result<[u8; 20], PublishFault>)],
 ) {
     let ping = word(rt, alloc, "test.ping");
-    publishes(rt, top, fleet, &target(rt, alloc, "*"), &ping, rows);
+    for (moment, jid) in rows {
+        assert_eq!(rt; jid_text(top, fleet, *moment, &ping), *jid);
+    }
 }
 
 static LAST_JIDS: [(u64, Result<[u8; 20], PublishFault>); 3] = [
-    (253402300800000000, Err(PublishFault::JidEnd)),
+    (
+        253402300800000000,
+        Err(PublishFault::Refused {
+            cause: PublishRefusal::JidEnd,
+        }),
+    ),
     (253402300799999999, Ok(*b"99991231235959999999")),
-    (7, Err(PublishFault::JidEnd)),
+    (
+        7,
+        Err(PublishFault::Refused {
+            cause: PublishRefusal::JidEnd,
+        }),
+    ),
 ];
 
 #[test]
@@ -180,13 +173,15 @@ fn publications_end_at_the_last_jid(rt: HostRuntime) {
     let alloc = rt.alloc();
     let fleet = pair(&rt, alloc);
     let mut top = published(&rt, alloc, &fleet, "*", 0);
-    publishes_ping(&rt, alloc, &mut top, &fleet, &LAST_JIDS);
+    publishes(&rt, alloc, &mut top, &fleet, &LAST_JIDS);
     has_jobs(&rt, &top, 1);
 }
 
 static FULL: [(u64, Result<[u8; 20], PublishFault>); 1] = [(
     7,
-    Err(PublishFault::JobsFull { max: 65_535 }),
+    Err(PublishFault::Refused {
+        cause: PublishRefusal::JobsFull { max: 65_535 },
+    }),
 )];
 
 #[test]
@@ -195,29 +190,31 @@ fn publications_end_at_65535_jobs(rt: HostRuntime) {
     let fleet = pair(&rt, alloc);
     let mut top = published(&rt, alloc, &fleet, "*", 65_600);
     has_jobs(&rt, &top, 65_535);
-    publishes_ping(&rt, alloc, &mut top, &fleet, &FULL);
+    publishes(&rt, alloc, &mut top, &fleet, &FULL);
 }
 
 static FULL_AT_2: [(u64, Result<[u8; 20], PublishFault>); 1] = [(
     7,
-    Err(PublishFault::JobsFull { max: 2 }),
+    Err(PublishFault::Refused {
+        cause: PublishRefusal::JobsFull { max: 2 },
+    }),
 )];
 
 #[test]
 fn publications_end_where_the_fleet_says(rt: HostRuntime) {
     let alloc = rt.alloc();
     let mut fleet = pair(&rt, alloc);
-    fleet.limit_jobs(2);
+    fleet.limits(2, 64);
     let mut top = published(&rt, alloc, &fleet, "*", 9);
     has_jobs(&rt, &top, 2);
-    publishes_ping(&rt, alloc, &mut top, &fleet, &FULL_AT_2);
+    publishes(&rt, alloc, &mut top, &fleet, &FULL_AT_2);
 }
 
 // What a minion runs: a function that is none, and one that counts; and messages that no node takes.
 static RUNS: [Step; 6] = [
-    (0, Sent::Run(0, "test.nothing", ""), Reply::Jobs(1)),
-    (0, Sent::Run(1, "data.incr", "n"), Reply::Jobs(2)),
-    (0, Sent::Run(2, "data.incr", "n"), Reply::Jobs(3)),
+    (0, Sent::Run(0, "test.nothing", &[]), Reply::Jobs(1)),
+    (0, Sent::Run(1, "data.incr", &["n"]), Reply::Jobs(2)),
+    (0, Sent::Run(2, "data.incr", &["n"]), Reply::Jobs(3)),
     (0, Sent::Hello("top"), Reply::Refused(Stray::WrongWay)),
     (0, Sent::End, Reply::Refused(Stray::WrongWay)),
     (1, Sent::AskJobs, Reply::Refused(Stray::NotNeighbour)),
@@ -240,8 +237,12 @@ fn a_minion_runs_each_job_on_what_it_holds_then(rt: HostRuntime) {
 }
 
 static TELLING: [Step; 2] = [
-    (0, Sent::Run(0, "mine.send", "test.ping"), Reply::Jobs(1)),
-    (0, Sent::Run(1, "event.send", "door/open"), Reply::Jobs(2)),
+    (0, Sent::Run(0, "mine.send", &["test.ping"]), Reply::Jobs(1)),
+    (
+        0,
+        Sent::Run(1, "event.send", &["door/open"]),
+        Reply::Jobs(2),
+    ),
 ];
 
 // the count of jobs, the start, and of each job its note and its return
@@ -279,7 +280,46 @@ fn a_top_takes_the_notes_of_a_minion(rt: HostRuntime) {
 
 static NOTED: [(u32, Option<(u8, i64)>); 1] = [(0, Some((0, 0)))];
 
-static STRAY_TEXTS: [(Stray, &str); 6] = [
+// Jobs whose targets have patterns: a minion reads those of the job that it runs next alone.
+static PATTERNS: [Step; 8] = [
+    (0, Sent::For(1, Kind::Pcre, "("), Reply::Jobs(0)),
+    (
+        0,
+        Sent::For(0, Kind::Pcre, "("),
+        Reply::Refused(Stray::BadPattern { leaf: 0 }),
+    ),
+    (
+        0,
+        Sent::For(0, Kind::Compound, "m* or E@("),
+        Reply::Refused(Stray::BadPattern { leaf: 1 }),
+    ),
+    (
+        1,
+        Sent::For(0, Kind::Pcre, "("),
+        Reply::Refused(Stray::NotNeighbour),
+    ),
+    (
+        0,
+        Sent::For(0, Kind::Compound, "m* or E@(a{1000}){1000}"),
+        Reply::TooBig(1),
+    ),
+    (0, Sent::For(0, Kind::Pcre, "m[0-9]"), Reply::Jobs(1)),
+    (0, Sent::For(0, Kind::Pcre, "("), Reply::Jobs(1)),
+    (0, Sent::For(1, Kind::Pcre, "w"), Reply::Jobs(2)),
+];
+
+static MATCHED: [(u32, Option<(u8, i64)>); 2] = [(0, Some((0, 0))), (1, None)];
+
+#[test]
+fn a_minion_reads_the_patterns_of_its_next_job(rt: HostRuntime) {
+    let alloc = rt.alloc();
+    let fleet = pair(&rt, alloc);
+    let mut node = Node::start(alloc, &fleet, NodeId::new(1)).expect(&rt, FAILED);
+    takes(&rt, alloc, &mut node, &fleet, 1, &PATTERNS);
+    has_outcomes(&rt, &node, "m2", &MATCHED);
+}
+
+static STRAY_TEXTS: [(Stray, &str); 7] = [
     (
         Stray::NotNeighbour,
         "the sender is neither the parent nor a child",
@@ -298,11 +338,42 @@ static STRAY_TEXTS: [(Stray, &str); 6] = [
         Stray::UnknownJob { seq: 2 },
         "the entry names the job 2, which is not held",
     ),
+    (
+        Stray::BadPattern { leaf: 3 },
+        "the pattern of leaf 3 cannot be read",
+    ),
+];
+
+static REFUSAL_TEXTS: [(PublishRefusal, &str); 5] = [
+    (
+        PublishRefusal::Target {
+            fault: TargetFault::Empty,
+        },
+        "the text is no target: the target is empty",
+    ),
+    (
+        PublishRefusal::BadPattern { leaf: 3 },
+        "the pattern of leaf 3 cannot be read",
+    ),
+    (
+        PublishRefusal::TooLarge,
+        "the target or the arguments are too large",
+    ),
+    (PublishRefusal::JobsFull { max: 2 }, "2 jobs are held"),
+    (PublishRefusal::JidEnd, "no later job id is left"),
 ];
 
 static PUBLISH_TEXTS: [(PublishFault, &str); 3] = [
-    (PublishFault::JobsFull { max: 2 }, "2 jobs are held"),
-    (PublishFault::JidEnd, "no later job id is left"),
+    (
+        PublishFault::Refused {
+            cause: PublishRefusal::JidEnd,
+        },
+        "the order is refused: no later job id is left",
+    ),
+    (
+        PublishFault::TooBig { leaf: 3 },
+        "the pattern of leaf 3 is too big",
+    ),
     (PublishFault::NoMemory, "no memory was found"),
 ];
 
@@ -314,12 +385,16 @@ static PEND_TEXTS: [(PendFault, &str); 2] = [
     (PendFault::NoMemory, "no memory was found"),
 ];
 
-static TAKE_TEXTS: [(TakeFault, &str); 2] = [
+static TAKE_TEXTS: [(TakeFault, &str); 3] = [
     (
         TakeFault::Stray {
             cause: Stray::NotBelow,
         },
         "the message is stray: the minion does not lie below",
+    ),
+    (
+        TakeFault::TooBig { leaf: 3 },
+        "the pattern of leaf 3 is too big",
     ),
     (TakeFault::NoMemory, "no memory was found"),
 ];
@@ -332,6 +407,13 @@ fn says(rt: &impl Abort, said: &str, text: &str) {
 fn faults_have_texts(rt: HostRuntime) {
     let alloc = rt.alloc();
     for (fault, text) in &STRAY_TEXTS {
+        says(
+            &rt,
+            fault.to_string(alloc).expect(&rt, FAILED).as_str(),
+            text,
+        );
+    }
+    for (fault, text) in &REFUSAL_TEXTS {
         says(
             &rt,
             fault.to_string(alloc).expect(&rt, FAILED).as_str(),

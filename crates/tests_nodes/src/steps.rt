@@ -1,23 +1,28 @@
 //! Messages that a node is sent, what it answers to them, and what it has for its neighbours.
+ghost use Rattle.std.specs.Prelude.{All};
 ghost use Rattle.std.specs.Bool.{OnTrue};
 ghost use Rattle.node_core.specs.Node.{IsCounted};
 ghost use Rattle.salt_wire.specs.Limits.{Within, EntryFits};
 
-use crate::made::{FAILED, id, job, word};
+use crate::made::{FAILED, id, job, job_for, word};
 use fleet_config::Fleet;
 use node_core::{Node, PendFault, Stray, TakeFault};
 use salt_value::{Event, Fields, NodeId, Outcome, Value};
 use salt_wire::{Entry, Message};
 use std::alloc::Global;
 use std::process::Abort;
+use target_tree::Kind;
 
 /// A message that a step sends.
 #[derive(Clone, Copy, Debug)]
 pub enum Sent {
     /// The job `test.ping` for all minions, by its number and the moment of its jid.
     Pub(u32, u64),
-    /// A job of this function with this argument, none where it is empty, by its number.
-    Run(u32, &'static str, &'static str),
+    /// A job of this function with these arguments, by its number.
+    Run(u32, &'static str, &'static [&'static str]),
+    /// The job `test.ping` for the minions that a target's text of this kind means, by its number; its jid comes after those
+    /// of lesser numbers.
+    For(u32, Kind, &'static str),
     Have(u32),
     /// The entry of this number of a minion: that it has started.
     Start(&'static str, u32),
@@ -43,6 +48,8 @@ pub enum Reply {
     Entries(u32),
     Nothing,
     Refused(Stray),
+    /// The pattern of this leaf is too big.
+    TooBig(u32),
     NoMemory,
     Other,
 }
@@ -120,11 +127,15 @@ fn message(rt: &impl Abort, alloc: Global, sent: Sent) -> Message
     match sent {
         Sent::Pub(seq, moment) => Message::Pub {
             seq,
-            job: job(rt, alloc, moment, "test.ping", ""),
+            job: job(rt, alloc, moment, "test.ping", &[]),
         },
-        Sent::Run(seq, fun, arg) => Message::Pub {
+        Sent::Run(seq, fun, args) => Message::Pub {
             seq,
-            job: job(rt, alloc, 7, fun, arg),
+            job: job(rt, alloc, 7, fun, args),
+        },
+        Sent::For(seq, kind, tgt) => Message::Pub {
+            seq,
+            job: job_for(rt, alloc, seq as u64, kind, tgt, "test.ping", &[]),
         },
         Sent::Have(jobs) => Message::Have { jobs },
         Sent::Start(minion, n) => entry(rt, minion, n, Entry::Start { boot: 1 }),
@@ -162,6 +173,7 @@ fn reply_of(answer: &Result<Option<Message>, TakeFault>) -> Reply {
         Ok(Some(message)) => reply_in(message),
         Ok(None) => Reply::Nothing,
         Err(TakeFault::Stray { cause }) => Reply::Refused(*cause),
+        Err(TakeFault::TooBig { leaf }) => Reply::TooBig(*leaf),
         Err(TakeFault::NoMemory) => Reply::NoMemory,
     }
 }
@@ -188,6 +200,29 @@ pub fn takes(
     for (i, (from, sent, reply)) in steps.iter().enumerate() {
         let answer = take(node, fleet, me, *from, &message(rt, alloc, *sent));
         assert_eq!(rt; answer, *reply, "at step {i}");
+    }
+}
+
+/// Each message of the top, which the node at the place `me` takes as its next job.
+pub fn takes_jobs(rt: &impl Abort, node: &mut Node, fleet: &Fleet, me: u32, messages: &[Message])
+    requires { All Within messages.now }
+{
+    for message in messages {
+        let answer = take(node, fleet, me, 0, message);
+        assert!(rt; matches!(answer, Reply::Jobs(_)));
+    }
+}
+
+/// What the top has for the node at this place.
+pub fn jobs_for(rt: &impl Abort, top: &Node, fleet: &Fleet, peer: u32) -> Vec<Message>
+    ensures value { All Within result.items }
+{
+    if fleet.count() == 0 {
+        panic!(rt; "{FAILED}");
+    }
+    match top.pending(fleet, NodeId::TOP, NodeId::new(peer), 99) {
+        Ok(messages) => messages,
+        Err(_) => panic!(rt; "{FAILED}"),
     }
 }
 

@@ -1,8 +1,9 @@
 //! A syndic of a tree: jobs go down through it, and entries up.
-use crate::made::{FAILED, TREE, grown, target, word};
+use crate::made::{FAILED, TREE, grown, word};
 use crate::steps::{Asked, Reply, Sent, Step, has_jobs, has_returns, takes, tells};
 use node_core::{Node, Stray};
 use salt_value::NodeId;
+use target_tree::Kind;
 
 // What the syndic at place 1 answers: the top is its parent, and the minion at place 2 and the syndic at place 3 its
 // children.
@@ -77,6 +78,25 @@ fn a_syndic_takes_jobs_down_and_entries_up(rt: HostRuntime) {
     has_returns(&rt, &node, &SYNDIC_RETURNS);
 }
 
+// A syndic matches nothing: it takes a job whatever its patterns are.
+static UNMATCHED: [Step; 2] = [
+    (0, Sent::For(0, Kind::Pcre, "("), Reply::Jobs(1)),
+    (
+        0,
+        Sent::For(1, Kind::Pcre, "(a{1000}){1000}"),
+        Reply::Jobs(2),
+    ),
+];
+
+#[test]
+fn a_syndic_takes_jobs_whose_patterns_it_cannot_read(rt: HostRuntime) {
+    let alloc = rt.alloc();
+    let fleet = grown(&rt, alloc, &TREE);
+    let mut node = Node::start(alloc, &fleet, NodeId::new(1)).expect(&rt, FAILED);
+    takes(&rt, alloc, &mut node, &fleet, 1, &UNMATCHED);
+    has_jobs(&rt, &node, 2);
+}
+
 // A syndic that has begun: nothing for its children, and the count of no jobs for its parent.
 static NEW_TELLS: [Asked; 3] = [(2, 9, 0), (3, 9, 0), (0, 9, 1)];
 
@@ -109,7 +129,7 @@ fn a_top_takes_the_entries_that_a_syndic_relays(rt: HostRuntime) {
     let fleet = grown(&rt, alloc, &TREE);
     let mut top = Node::start(alloc, &fleet, NodeId::TOP).expect(&rt, FAILED);
     let ping = word(&rt, alloc, "test.ping");
-    top.publish(&fleet, 7, &target(&rt, alloc, "*"), &ping, &[])
+    top.publish(&fleet, 7, Kind::Glob, "*", &ping, &[])
         .expect(&rt, FAILED);
     takes(&rt, alloc, &mut top, &fleet, 0, &TOP);
     tells(&rt, &top, &fleet, 0, &TOP_TELLS);

@@ -253,7 +253,7 @@ static PATTERNS: [(&str, Told); 74] = [
     ),
 ];
 
-static OTHER_KINDS: [(Kind, &str, Told); 55] = [
+static OTHER_KINDS: [(Kind, &str, Told); 56] = [
     (Kind::Glob, "web*", Told::ById(true)),
     (Kind::Glob, "WEB*", Told::ById(false)),
     (Kind::Glob, "eb1*", Told::ById(false)),
@@ -324,6 +324,11 @@ static OTHER_KINDS: [(Kind, &str, Told); 55] = [
     (
         Kind::Compound,
         "E@a or E@(",
+        Told::Unbuilt(BuildFault::BadPattern { leaf: 1 }),
+    ),
+    (
+        Kind::Compound,
+        "web* and E@(",
         Told::Unbuilt(BuildFault::BadPattern { leaf: 1 }),
     ),
     (
@@ -433,7 +438,7 @@ static EDGE_GLOBS: [(&str, Told); 19] = [
 ];
 
 // A pattern that can be read, whose tables would be too big, is told by its leaf.
-static BIG: [(Kind, &str, Told); 2] = [
+static BIG: [(Kind, &str, Told); 3] = [
     (
         Kind::Pcre,
         "(a{1000}){1000}",
@@ -443,6 +448,12 @@ static BIG: [(Kind, &str, Told); 2] = [
         Kind::Compound,
         "web* and E@a or P@os:(a{1000}){1000} or E@(",
         Told::Unbuilt(BuildFault::TooBig { leaf: 2 }),
+    ),
+    // one that cannot be read before it
+    (
+        Kind::Compound,
+        "E@( or E@(a{1000}){1000}",
+        Told::Unbuilt(BuildFault::BadPattern { leaf: 0 }),
     ),
 ];
 

@@ -1,5 +1,5 @@
 //! Values at their limits.
-use salt_value::{Fields, Items, Text, Value, ValueFault};
+use salt_value::{Fields, Items, Text, Value, ValueFault, list_fits};
 use std::alloc::{AllocError, Global};
 use std::process::Abort;
 
@@ -99,5 +99,36 @@ fn map_fits(alloc: Global, length: u32) -> Result<bool, AllocError> {
 fn a_map_has_at_most_65536_bytes(rt: HostRuntime) {
     for (length, wanted) in [(65_521, true), (65_522, false)] {
         assert_eq!(rt; map_fits(rt.alloc(), length), Ok(wanted));
+    }
+}
+
+// Are the items of a list within the limits of a list? No other value has items.
+fn items_fit(value: &Value) -> bool {
+    match value {
+        Value::List(items) => list_fits(items.as_slice()),
+        _ => false,
+    }
+}
+
+// A list of one text of so many bytes.
+fn list_of_long(alloc: Global, length: u32) -> Result<Value, AllocError> {
+    let mut items = Items::new(alloc);
+    items.push(long(alloc, length)?)?;
+    Ok(Value::List(items))
+}
+
+#[test]
+fn items_have_at_most_31_levels(rt: HostRuntime) {
+    for (levels, wanted) in [(1, true), (32, true), (33, false)] {
+        let value = nested(rt.alloc(), levels).expect(&rt, "memory");
+        assert_eq!(rt; items_fit(&value), wanted, "at {levels}");
+    }
+}
+
+#[test]
+fn a_list_has_at_most_65536_bytes(rt: HostRuntime) {
+    for (length, wanted) in [(65_526, true), (65_527, false)] {
+        let value = list_of_long(rt.alloc(), length).expect(&rt, "memory");
+        assert_eq!(rt; items_fit(&value), wanted, "at {length}");
     }
 }

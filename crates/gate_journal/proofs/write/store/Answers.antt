@@ -46,8 +46,8 @@ returns-clause-memory g c = λ told is limit payloads rests.
     (rests_old limit c.args.len payloads c.args.body.now (part_of old c.args.part) (part_of mid c.args.part) rests
     (rests_within limit c.args.len payloads (part_of old c.args.part) rests) (c.in_ok-write_through.ensures.ok told))
 
-pub returns-in_err-write_through-clause-stopped : goal.returns-in_err-write_through-clause-stopped
-returns-in_err-write_through-clause-stopped g c = λ told is limit payloads payload next.
+pub returns-in_err-write_through-clause-failed : goal.returns-in_err-write_through-clause-failed
+returns-in_err-write_through-clause-failed g c = λ told is limit payloads payload next.
     let old = g.D.Disk.state c.args.disk.now in
     let failed : IsErrOf c.write_through.result Failed = search rules in
     record {
@@ -55,14 +55,14 @@ returns-in_err-write_through-clause-stopped g c = λ told is limit payloads payl
       late = λ passes. absurd (((c.write_through.ensures.fuse told).failed failed).0 passes);
     }
 
-pub returns-clause-stopped : goal.returns-clause-stopped
-returns-clause-stopped g c = λ told is limit payloads payload next.
+pub returns-clause-failed : goal.returns-clause-failed
+returns-clause-failed g c = λ told is limit payloads payload next.
     let old = g.D.Disk.state c.args.disk.now in
     let mid = g.D.Disk.state c.write_through.new.disk in
     record {
       early = λ fails image may. absurd (fails (c.in_ok-write_through.ensures.fuse told).passed.0);
       late = λ passes. (
-        c.write_through-2.ensures.cut_off told is,
+        c.write_through-2.ensures.failed told is,
         λ image may. gate_decides c.args.part limit c.args.len payloads payload c.args.body.now old next mid (c.in_ok-write_through.ensures.ok told) (c.write_through.ensures.others told) image
             ((c.write_through-2.ensures.crash told).each image (inl may)),
       );

@@ -3,9 +3,8 @@ use Rattle.salt_disk.specs.Disk.{PartState, part_of, settled_part, put}
 use Rattle.salt_disk.specs.Crash.{WritesOnly}
 use Rattle.salt_disk.proofs.Moments.{joins, weakens}
 use Rattle.salt_disk.proofs.Torn.{on_ok}
-use Rattle.gate_journal.specs.Journal.{fresh_journal, Rests}
-use Rattle.gate_journal.specs.Fresh.{HoldsNothing}
-use Rattle.gate_journal.proofs.Making.{short_image, made, made_bytes, first_bytes}
+use Rattle.gate_journal.specs.Fresh.{IsFresh, HoldsNothing}
+use Rattle.gate_journal.proofs.Making.{short_image, made, first_bytes}
 use Rattle.gate_journal.proofs.write.write_header.Goals as goal
 
 pub returns-in_err-write_through-clause-any_moment : goal.returns-in_err-write_through-clause-any_moment
@@ -32,15 +31,6 @@ returns-clause-ok g c = λ told.
     let old = part_of (g.D.Disk.state c.args.disk.now) c.args.part in
     let mid = part_of (g.D.Disk.state c.write_through.new.disk) c.args.part in
     let new = part_of (g.D.Disk.state c.write_through-2.new.disk) c.args.part in
-    on_ok c.write_through-2.result (new ≡ settled_part (put 0 (83 ∷ []) mid.bytes)) (Rests c.args.limit 17 [] new)
+    on_ok c.write_through-2.result (new ≡ settled_part (put 0 (83 ∷ []) mid.bytes)) (IsFresh c.args.limit new)
     (λ is. made c.args.limit c.header_but_one.result old mid new c.header_but_one.ensures (c.requires.short told) (c.in_ok-write_through.ensures.ok told) is c.requires.least c.requires.greatest)
-    (c.write_through-2.ensures.ok told)
-
-pub returns-clause-bytes : goal.returns-clause-bytes
-returns-clause-bytes g c = λ told.
-    let old = part_of (g.D.Disk.state c.args.disk.now) c.args.part in
-    let mid = part_of (g.D.Disk.state c.write_through.new.disk) c.args.part in
-    let new = part_of (g.D.Disk.state c.write_through-2.new.disk) c.args.part in
-    on_ok c.write_through-2.result (new ≡ settled_part (put 0 (83 ∷ []) mid.bytes)) (new.bytes ≡ fresh_journal c.args.limit)
-    (λ is. made_bytes c.args.limit c.header_but_one.result old mid new c.header_but_one.ensures (c.requires.short told) (c.in_ok-write_through.ensures.ok told) is)
     (c.write_through-2.ensures.ok told)

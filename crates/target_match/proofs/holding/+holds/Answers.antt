@@ -1,4 +1,4 @@
-use Rattle.std.proofs.Common.{◌≡◌, inl, inr, true, false, sym, ap, ◌∙◌, not}
+use Rattle.std.proofs.Common.{◌≡◌, inl, inr, true, false, sym, ap, subst, ◌∙◌, not}
 use Rattle.std.specs.Prelude.{bytes_eq}
 use Rattle.std.specs.List.{list_any}
 use Rattle.salt_glob.specs.Globs.{glob}
@@ -6,7 +6,8 @@ use Rattle.target_match.specs.Patterns.{starts}
 use Rattle.target_match.specs.Paths.{parts}
 use Rattle.target_match.specs.Data.{map_meets, told_pairs}
 use Rattle.target_match.specs.Holds.{holds, is_by_id}
-use Rattle.target_match.specs.Ready.{target_of}
+use Rattle.target_match.specs.Ready.{target_of, ready_patterns}
+use Rattle.target_match.specs.Searches.{Keeps, AddsOfReady}
 use Rattle.target_match.proofs.Meeting.{carried, glob-holds}
 use Rattle.target_match.proofs.Readied as R
 use Rattle.target_match.proofs.Keeping as K
@@ -95,13 +96,19 @@ returns-else-branch-clause-ok t c =
     ∙ sym (R.holds-Or c.in-Or.left c.in-Or.right a.id.now a.grains.now a.pillar.now) ∙ ap (λ x. holds (target_of x) a.id.now a.grains.now a.pillar.now) (sym c.in-Or.is))
 
 pub returns-in-IdPcre-clause-searches : goal.returns-in-IdPcre-clause-searches
-returns-in-IdPcre-clause-searches t c = K.id_leaf c.args.ready.now c.in-IdPcre.pattern _ _ c.in-IdPcre.is c.holds.ensures.searches
+returns-in-IdPcre-clause-searches t c =
+    subst (λ b. Keeps (ready_patterns c.args.ready.now) b c.holds.new.searches.items) c.kept.view_is
+    (K.id_leaf c.args.ready.now c.in-IdPcre.pattern _ _ c.in-IdPcre.is c.holds.ensures.searches)
 
 pub returns-in-GrainPcre-clause-searches : goal.returns-in-GrainPcre-clause-searches
-returns-in-GrainPcre-clause-searches t c = K.grain_leaf c.args.ready.now c.in-GrainPcre.pattern _ _ c.in-GrainPcre.is c.holds-in-GrainPcre.ensures.searches
+returns-in-GrainPcre-clause-searches t c =
+    subst (λ b. Keeps (ready_patterns c.args.ready.now) b c.holds-in-GrainPcre.new.searches.items) c.kept-in-GrainPcre.view_is
+    (K.grain_leaf c.args.ready.now c.in-GrainPcre.pattern _ _ c.in-GrainPcre.is c.holds-in-GrainPcre.ensures.searches)
 
 pub returns-in-PillarPcre-clause-searches : goal.returns-in-PillarPcre-clause-searches
-returns-in-PillarPcre-clause-searches t c = K.pillar_leaf c.args.ready.now c.in-PillarPcre.pattern _ _ c.in-PillarPcre.is c.holds-in-PillarPcre.ensures.searches
+returns-in-PillarPcre-clause-searches t c =
+    subst (λ b. Keeps (ready_patterns c.args.ready.now) b c.holds-in-PillarPcre.new.searches.items) c.kept-in-PillarPcre.view_is
+    (K.pillar_leaf c.args.ready.now c.in-PillarPcre.pattern _ _ c.in-PillarPcre.is c.holds-in-PillarPcre.ensures.searches)
 
 pub returns-in_ok-holds-in-Not-clause-searches : goal.returns-in_ok-holds-in-Not-clause-searches
 returns-in_ok-holds-in-Not-clause-searches t c = K.not_tree c.args.ready.now c.in-Not.one c.get.result.now _ _ c.in-Not.is c.get.ensures c.holds-in-Not.ensures.searches
@@ -178,7 +185,9 @@ pub returns-in-IdGlob-clause-asked : goal.returns-in-IdGlob-clause-asked
 returns-in-IdGlob-clause-asked t c = A.id_glob c.args.id.now c.args.grains.now c.args.pillar.now c.args.ready.now c.in-IdGlob.text _ c.in-IdGlob.is
 
 pub returns-in-IdPcre-clause-asked : goal.returns-in-IdPcre-clause-asked
-returns-in-IdPcre-clause-asked t c = A.on_ok c.holds.result (A.id_pattern c.args.id.now c.args.grains.now c.args.pillar.now c.args.ready.now c.in-IdPcre.pattern _ _ c.in-IdPcre.is c.holds.ensures.searches) c.holds.ensures.asked
+returns-in-IdPcre-clause-asked t c =
+    subst (λ b. AddsOfReady c.holds.result c.args.id.now c.args.grains.now c.args.pillar.now c.args.ready.now b c.holds.new.searches.items) c.kept.view_is
+    (A.on_ok c.holds.result (A.id_pattern c.args.id.now c.args.grains.now c.args.pillar.now c.args.ready.now c.in-IdPcre.pattern _ _ c.in-IdPcre.is c.holds.ensures.searches) c.holds.ensures.asked)
 
 pub returns-in-IdList-clause-asked : goal.returns-in-IdList-clause-asked
 returns-in-IdList-clause-asked t c = A.id_list c.args.id.now c.args.grains.now c.args.pillar.now c.args.ready.now c.in-IdList.ids _ c.in-IdList.is
@@ -187,13 +196,17 @@ pub returns-in-GrainGlob-clause-asked : goal.returns-in-GrainGlob-clause-asked
 returns-in-GrainGlob-clause-asked t c = A.on_any c.pairs_meet.result (A.grain_glob c.args.id.now c.args.grains.now c.args.pillar.now c.args.ready.now c.in-GrainGlob.text _ c.in-GrainGlob.is)
 
 pub returns-in-GrainPcre-clause-asked : goal.returns-in-GrainPcre-clause-asked
-returns-in-GrainPcre-clause-asked t c = A.on_ok c.holds-in-GrainPcre.result (A.grain_pattern c.args.id.now c.args.grains.now c.args.pillar.now c.args.ready.now c.in-GrainPcre.pattern _ _ c.in-GrainPcre.is c.holds-in-GrainPcre.ensures.searches) c.holds-in-GrainPcre.ensures.asked
+returns-in-GrainPcre-clause-asked t c =
+    subst (λ b. AddsOfReady c.holds-in-GrainPcre.result c.args.id.now c.args.grains.now c.args.pillar.now c.args.ready.now b c.holds-in-GrainPcre.new.searches.items) c.kept-in-GrainPcre.view_is
+    (A.on_ok c.holds-in-GrainPcre.result (A.grain_pattern c.args.id.now c.args.grains.now c.args.pillar.now c.args.ready.now c.in-GrainPcre.pattern _ _ c.in-GrainPcre.is c.holds-in-GrainPcre.ensures.searches) c.holds-in-GrainPcre.ensures.asked)
 
 pub returns-in-PillarGlob-clause-asked : goal.returns-in-PillarGlob-clause-asked
 returns-in-PillarGlob-clause-asked t c = A.on_any c.pairs_meet-in-PillarGlob.result (A.pillar_glob c.args.id.now c.args.grains.now c.args.pillar.now c.args.ready.now c.in-PillarGlob.text _ c.in-PillarGlob.is)
 
 pub returns-in-PillarPcre-clause-asked : goal.returns-in-PillarPcre-clause-asked
-returns-in-PillarPcre-clause-asked t c = A.on_ok c.holds-in-PillarPcre.result (A.pillar_pattern c.args.id.now c.args.grains.now c.args.pillar.now c.args.ready.now c.in-PillarPcre.pattern _ _ c.in-PillarPcre.is c.holds-in-PillarPcre.ensures.searches) c.holds-in-PillarPcre.ensures.asked
+returns-in-PillarPcre-clause-asked t c =
+    subst (λ b. AddsOfReady c.holds-in-PillarPcre.result c.args.id.now c.args.grains.now c.args.pillar.now c.args.ready.now b c.holds-in-PillarPcre.new.searches.items) c.kept-in-PillarPcre.view_is
+    (A.on_ok c.holds-in-PillarPcre.result (A.pillar_pattern c.args.id.now c.args.grains.now c.args.pillar.now c.args.ready.now c.in-PillarPcre.pattern _ _ c.in-PillarPcre.is c.holds-in-PillarPcre.ensures.searches) c.holds-in-PillarPcre.ensures.asked)
 
 pub returns-in_ok-holds-in-Not-clause-asked : goal.returns-in_ok-holds-in-Not-clause-asked
 returns-in_ok-holds-in-Not-clause-asked t c = A.not_tree c.args.id.now c.args.grains.now c.args.pillar.now c.args.ready.now c.in-Not.one c.get.result.now _ _ c.in-Not.is c.get.ensures c.in_ok-holds-in-Not.ensures.asked

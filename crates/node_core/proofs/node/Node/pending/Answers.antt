@@ -9,13 +9,13 @@ use Rattle.node_core.proofs.node.Node.pending.Goals as goal
 
 pub returns-then-is_parent-clause-counted : goal.returns-then-is_parent-clause-counted
 returns-then-is_parent-clause-counted c =
-    subst (λ (ms : List Message). All IsCounted ms) (sym c.in_ok-pending_down.ensures) (down_counted c.args.peer c.args.max c.args.self.now)
+    subst (λ (ms : List Message). All IsCounted ms) (sym c.in_ok-pending_down.ensures) (down_counted c.args.to c.args.max c.args.self.now)
 
 pub returns-then-is_parent-clause-fits : goal.returns-then-is_parent-clause-fits
 returns-then-is_parent-clause-fits c =
     let few = subst (λ (n : NodeState). length (jobs n.records) < 2 ^ 32) c.self.view_is (list_few _ _ _ _ c.self.invariant) in
     let fit = subst (λ (n : NodeState). All JobFits (jobs n.records)) c.self.view_is (list_fits _ _ _ _ c.self.invariant) in
-    subst (λ (ms : List Message). All Within ms) (sym c.in_ok-pending_down.ensures) (down_fits c.args.peer c.args.max c.args.self.now few fit)
+    subst (λ (ms : List Message). All Within ms) (sym c.in_ok-pending_down.ensures) (down_fits c.args.to c.args.max c.args.self.now few fit)
 
 pub returns-then-is_parent-2-clause-counted : goal.returns-then-is_parent-2-clause-counted
 returns-then-is_parent-2-clause-counted c =

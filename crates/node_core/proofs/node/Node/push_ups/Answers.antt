@@ -12,4 +12,4 @@ returns-clause-fits c =
     let few = subst (λ (l : List Entry). length l < 2 ^ 32) (sym c.entries.ensures) (entries_few _ _ _ _ c.self.invariant id) in
     let fit = subst (λ (l : List Entry). All EntryFits l) (sym c.entries.ensures) (c.self.invariant.entries_fit id) in
     subst (λ (ms : List Message). All Within ms) (sym c.in_ok-push_entries.ensures)
-    (ups_after id c.known-known.result c.args.max c.entries.result.now c.args.messages.now.items c.as_bytes-bytes.ensures.valid few fit c.requires.fits)
+    (ups_after id c.known-known.result c.args.max c.entries.result.now c.args.out.now.items c.as_bytes-bytes.ensures.valid few fit c.requires.fits)
