@@ -1,4 +1,5 @@
 pub mod Runs
+pub mod BigPatterns
 pub mod Turns
 pub mod Words
 pub mod Pieces

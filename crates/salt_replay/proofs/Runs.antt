@@ -133,4 +133,4 @@ are_turns f (turn ∷ turns) h = (h.0.0, are_turns f turns h.1)
 
 -- the fleet of a script is one
 pub is_fleet : (s : Script) → IsScript s → IsFleet (fleet_of s)
-is_fleet s h = record { tree = flat_is_tree s.top s.minions h.ids.distinct h.ids.few; some_jobs = omega arith; jobs = omega arith }
+is_fleet s h = record { tree = flat_is_tree s.top s.minions h.ids.distinct h.ids.few; limits = record { some_jobs = omega arith; few_jobs = omega arith; least = omega arith; most = omega arith } }

@@ -1,9 +1,11 @@
 -- What a run over a script does.
-use Rattle.std.specs.Prelude.{◌≡◌, ◌⊎◌, ℕ, List, ◌++◌, codes, decimal, Option, None, Some, All}
+use Rattle.std.specs.Prelude.{◌≡◌, ◌⊎◌, ℕ, List, ◌∷◌, ◌++◌, codes, decimal, Option, None, Some, All}
 use Rattle.salt_outside.specs.Causes.{Rose}
 use Rattle.salt_outside.specs.Streams.{contents_after, IsPart, IsRest, IsAtEnd, HasMoreThan, HasAtMost}
+use Rattle.fleet_config.specs.Fleet.{FleetConfig}
 use Rattle.fleet_turns.specs.declared.turn.Turn.{Turn}
 use Rattle.tree_world.specs.Network.{top_jobs}
+use Rattle.tree_world.specs.Halts.{MeetsBigPattern}
 use Rattle.tree_world.specs.Text.{text_of, line}
 use Rattle.tree_laws.specs.Laws.{network_after, IsReportFlat, IsTaken}
 use Rattle.script_text.specs.declared.script.Script.{Script}
@@ -88,3 +90,9 @@ StaysSound s =
     (turns later : List Turn) → s.turns ≡ turns ++ later
     → ((seq : ℕ) → IsReportFlat (fleet_of s).tree (top_jobs (network_after (fleet_of s) turns)) (network_after (fleet_of s) turns) seq)
     × All (IsTaken (fleet_of s).tree (network_after (fleet_of s) turns)) (network_after (fleet_of s) turns).packets
+
+-- No turn of these meets a pattern that is too big, where those before it were run. No public contract cites it.
+abbrev pub MeetNoBigPattern : FleetConfig → List Turn → Type 0
+MeetNoBigPattern f turns =
+    (before later : List Turn) (turn : Turn) (leaf : ℕ) → turns ≡ before ++ turn ∷ later
+    → MeetsBigPattern f turn (network_after f before) leaf → ⊥

@@ -1,12 +1,15 @@
 //! The commands: a script is read, and the text of its run written.
-ghost use Rattle.std.specs.Prelude.{◌≡◌, ◌≢◌, ◌∷◌, [], ◌↔◌, codes, length, IsTrue, IfOk, OnOk, OnErr, IsErrOf};
+ghost use Rattle.std.specs.Prelude.{◌≡◌, ◌≢◌, ◌∷◌, [], ◌↔◌, codes, length, IsTrue, List, IfOk, IfErr, OnOk, OnErr, IsErrOf};
 ghost use Rattle.salt_outside.specs.Causes.{CountsFaults};
 ghost use Rattle.salt_outside.specs.Streams.{contents_after, IsPart};
 ghost use Rattle.std.specs.List.{AllByRecursion};
-ghost use Rattle.fleet_turns.specs.Turns.{IsTurn};
+ghost use Rattle.fleet_config.specs.Fleet.{FleetConfig, IsFleet};
+ghost use Rattle.fleet_turns.specs.declared.turn.Turn.{Turn};
+ghost use Rattle.tree_world.specs.Network.{start};
+ghost use Rattle.tree_world.specs.Halts.{NeverTooBig};
 ghost use Rattle.tree_world.specs.Text.{text_from};
-ghost use Rattle.script_text.specs.Script.{IsScript};
-ghost use Rattle.salt_replay.specs.Replay.{text_of_script, refused_line, IsLineTold, IsNoCommand, HasReplayed, StaysSound};
+ghost use Rattle.script_text.specs.Script.{IsScript, MayStand};
+ghost use Rattle.salt_replay.specs.Replay.{text_of_script, refused_line, IsLineTold, IsNoCommand, HasReplayed, StaysSound, MeetNoBigPattern};
 ghost use Rattle.salt_replay.specs.Printed.{IsPrinted, PrintsScripts};
 ghost use Rattle.script_text.specs.declared.script.Script.{Script};
 
@@ -24,13 +27,17 @@ pub struct Status {
     pub code: u8,
 }
 
-// Runs the turns, and prints the text.
+// Runs the turns from the start, and prints the text. No pattern is too big, since the turns publish globs of ids alone.
 fn run_turns<K: Sink>(world: &mut World, turns: &[Turn], sink: &mut K) -> Result<(), StepFault>
-    requires { AllByRecursion (IsTurn world.old.fleet) turns.now }
+    requires fleet { IsFleet world.old.fleet }
+    requires start { world.old.network ≡ start world.old.fleet }
+    requires turns { AllByRecursion (MayStand world.old.fleet) turns.now }
     ensures text { OnOk result (K.held sink.new ≡ contents_after (K.held sink.old) (text_from world.old.fleet turns.now world.old.network)) }
     ensures part { IsPart (K.held sink.old) (K.held sink.new) (text_from world.old.fleet turns.now world.old.network) }
     ensures faults { CountsFaults (IsErrOf result StepFault.WriteFault) (K.faults sink.old) (K.faults sink.new) }
+    ensures small { IfErr result NeverTooBig }
 {
+    no_pattern_is_big();
     for turn in turns {
         world.step(turn, sink)?;
     }
@@ -43,6 +50,7 @@ fn play<K: Sink>(alloc: Global, script: Script, sink: &mut K) -> Result<(), Step
     ensures text { OnOk result (K.held sink.new ≡ contents_after (K.held sink.old) (text_of_script script)) }
     ensures part { IsPart (K.held sink.old) (K.held sink.new) (text_of_script script) }
     ensures faults { CountsFaults (IsErrOf result StepFault.WriteFault) (K.faults sink.old) (K.faults sink.new) }
+    ensures small { IfErr result NeverTooBig }
 {
     let Script {
         top,
@@ -84,6 +92,13 @@ fn refusal_text(alloc: Global, line: u32) -> Result<Vec<u8>, AllocError>
     text.extend_from_slice(number.as_bytes())?;
     text.extend_from_slice(b" NotYet\n")?;
     Ok(text)
+}
+
+// No turn that a script may have meets a pattern that is too big.
+fn no_pattern_is_big()
+    ensures { (f : FleetConfig) (turns : List Turn) → IsFleet f → AllByRecursion (MayStand f) turns → MeetNoBigPattern f turns }
+{
+    whole_runs();
 }
 
 // What holds after every turn of every script.
@@ -144,6 +159,7 @@ fn replay_script<S: Source, K: Sink>(alloc: Global, source: &mut S, sink: &mut K
         Ok(()) => Status { code: 0 },
         Err(StepFault::NoMemory) => Status { code: 1 },
         Err(StepFault::WriteFault) => Status { code: 5 },
+        Err(StepFault::TooBig { .. }) => unreachable!(),
     }
 }
 
