@@ -23,6 +23,10 @@ lines_until top minions last turns stage.End = fleet_lines top minions ++ schedu
 abbrev pub minions_of : Draft → List (List ℕ)
 minions_of d = drop 1 d.ids.keys
 
+-- No public contract cites it. A minion with this id may be the next one
+abbrev pub MayFollow : Draft → List ℕ → Type 0
+MayFollow d id = HasIds d.top (minions_of d ++ id ∷ [])
+
 -- No public contract cites it. The lines that were read
 abbrev pub draft_lines : Draft → List (List ℕ)
 draft_lines d = lines_until d.top (minions_of d) d.last d.turns d.stage
