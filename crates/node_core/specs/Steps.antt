@@ -1,4 +1,4 @@
--- What the parts of a publication answer, and what a node answers to a job. No public contract cites these.
+-- What the parts of a publication, of a message that is taken and of the messages for a neighbour do. No public contract cites these.
 use Rattle.std.specs.Prelude.{ℕ, ◌≡◌, ◌<◌, ◌++◌, ◌∷◌, [], ⊤, Bool, true, false, List, length, take, drop, Result, Ok, Err, Option, None, Some}
 use Rattle.salt_value.specs.WellFormed.{ValueFits}
 use Rattle.salt_value.specs.declared.value.Value.{Value}

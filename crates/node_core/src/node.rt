@@ -1,22 +1,15 @@
 //! A node, and the calls on it.
-ghost use Rattle.std.specs.Prelude.{◌≡◌, ◌≢◌, ◌++◌, ◌∷◌, [], ◌<◌, ◌≤◌, ◌+◌, ◌-◌, ◌==◌, ◌^◌, ℕ, List, Option, Some, None, Ok, Err, true, false, not, drop, take, length, All, IfOk, IfErr, IfSome, OnOk, OnErr, IsOk, IsErrOf, if◌then◌else◌};
+ghost use Rattle.std.specs.Prelude.{◌≡◌, ◌<◌, ◌≤◌, ◌+◌, ◌-◌, ◌==◌, ◌^◌, Option, Some, None, Ok, Err, true, false, not, take, length, All, IfOk, IfErr, IfSome, OnOk, OnErr, IsErrOf, if◌then◌else◌};
 ghost use Rattle.std.specs.Option.{option_copied};
 ghost use Rattle.fleet_config.specs.Limits.{most_jobs};
-ghost use Rattle.fleet_config.specs.Tree as tree;
 ghost use Rattle.node_core.specs.Logs.{IsJobRecord};
 ghost use Rattle.node_core.specs.Publications.{order, Publishes, IsPublishFault};
 ghost use Rattle.node_core.specs.Steps.{IsRunBy, IsRunAnswer, booted_minion, first_stray_of, up_stray, Accepts, AcceptsJob, AcceptsEntry, after_job, after_run, AddsUps};
 ghost use Rattle.minion_core.specs.Faults.{IsRunFault};
-ghost use Rattle.fleet_config.specs.Causes as causes;
 ghost use Rattle.exec_functions.specs.Limits.{AreWithin};
 ghost use Rattle.salt_wire.specs.Limits.{JobFits};
-ghost use Rattle.salt_value.specs.WellFormed.{ValueFits};
 ghost use Rattle.salt_value.specs.declared.value.Value.TheVariants as v;
-ghost use Rattle.node_core.specs.Node.Answer.{IsStray};
-ghost use Rattle.node_core.specs.declared.faults.TakeFault.TheVariants as take;
 ghost use Rattle.node_core.specs.declared.faults.PendFault.TheVariants.{NotNeighbour};
-ghost use Rattle.node_core.specs.declared.faults.PublishFault.TheVariants as publish;
-ghost use Rattle.salt_wire.specs.declared.message.Message.TheVariants as m;
 
 use crate::counts::Counts;
 use crate::logs::Logs;
