@@ -15,3 +15,4 @@ pub mod Bounds
 pub mod Whence
 pub mod Grows
 pub mod Runs
+pub mod Example
