@@ -5,7 +5,7 @@ use Rattle.target_tree.specs.declared.target.Target.{Target, fold-roll-Target}
 use Rattle.target_tree.specs.declared.target.Target.TheVariants.{IdGlob, rolls-IdGlob}
 use Rattle.target_tree.specs.declared.target.Target.TheOpen.{Target-F}
 use Rattle.target_match.specs.Holds.{Data, holds, holds_layer, patterns, patterns_layer}
-use Rattle.target_match.specs.Unread.{first_unread, unread_leaf}
+use Rattle.target_match.specs.Readability.{first_unread, unread_leaf}
 use Rattle.salt_wire.specs.declared.message.Job.{Job}
 use Rattle.minion_core.specs.Flat.{does_hold}
 use Rattle.minion_core.specs.Globs.{IsAnswerById}

@@ -5,8 +5,8 @@ use Rattle.std.specs.List.{AllByRecursion}
 use Rattle.std.proofs.lemmas.List.{drop_at, length-take, length-drop, drop-drop, take-append-drop, take-append-le, drop-append-le, take-take}
 use Rattle.std.proofs.lemmas.List.Concat.{flat_map-cons}
 use Rattle.salt_frame.specs.Frames.{frame, frames, IsBody, IsPartial, IsOver, Ends, Splits, HasOver}
-use Rattle.salt_frame.specs.Held.{Held, HoldsRest}
-use Rattle.salt_frame.specs.Inside.{AreFrames, IsTail}
+use Rattle.salt_frame.specs.Buffer.{Held, HoldsRest}
+use Rattle.salt_frame.specs.BufferFields.{AreFrames, IsTail}
 use Rattle.salt_frame.proofs.Readings.{one}
 
 pub frames_join : (xs ys : List (List ℕ)) → frames (xs ++ ys) ≡ frames xs ++ frames ys

@@ -5,7 +5,7 @@ use Rattle.std.specs.List.{AllByRecursion}
 use Rattle.std.proofs.lemmas.List.{append-nil}
 use Rattle.std.proofs.lemmas.List.Concat.{flat_map-cons}
 use Rattle.salt_frame.specs.Frames.{frame, frames, IsBody, IsOver, Ends, Reads}
-use Rattle.salt_frame.specs.Held.{Held, kept_of, HoldsRest, Lends, TakesNext}
+use Rattle.salt_frame.specs.Buffer.{Held, kept_of, HoldsRest, Lends, TakesNext}
 use Rattle.salt_frame.proofs.Readings.{prefix_free, not_ends}
 use Rattle.salt_frame.proofs.FeedLemmas.{frames_join, all_join, all_first}
 

@@ -1,6 +1,6 @@
 -- Every run of feeds and takings.
 use Rattle.std.specs.Prelude.{◌≡◌, ℕ, List, [], ◌∷◌, ◌++◌, None}
-use Rattle.salt_frame.specs.Held.{Held, HoldsRest, Feeds, Lends}
+use Rattle.salt_frame.specs.Buffer.{Held, HoldsRest, Feeds, Lends}
 
 -- a feed that took its piece, or found a length over the limit; and a call of next that lent a body
 pub data Event : Type 0 where

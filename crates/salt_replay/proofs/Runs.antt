@@ -5,7 +5,7 @@ use Rattle.fleet_config.specs.Fleet.{FleetConfig, IsFleet}
 use Rattle.fleet_config.proofs.Fleets.{flat_is_tree}
 use Rattle.fleet_turns.specs.declared.turn.Turn.{Turn}
 use Rattle.fleet_turns.specs.Turns.{IsTurn}
-use Rattle.script_text.specs.Refused.{IsRefusedAt}
+use Rattle.script_text.specs.Refusals.{IsRefusedAt}
 use Rattle.std.specs.Prelude.{◌≢◌, Option, None, Some}
 use Rattle.salt_outside.specs.Causes.{Rose}
 use Rattle.salt_outside.proofs.Parts.{part_none}

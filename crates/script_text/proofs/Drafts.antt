@@ -12,7 +12,7 @@ use Rattle.script_text.specs.declared.draft.Stage.TheVariants as stage
 use Rattle.script_text.specs.Script.{IsName, MayStand, turn_line, id_line, top_lines, fleet_lines}
 use Rattle.indexmap.specs.IndexSet.{insert_key}
 use Rattle.script_text.specs.Fleet.{fleet_by, AreIds}
-use Rattle.script_text.specs.Refused.{GoesOn}
+use Rattle.script_text.specs.Refusals.{GoesOn}
 use Rattle.script_text.specs.Draft.{IsOnly, IsRead, IsDraft, IsScriptOf, IsLineTaken, lines_until, draft_lines, minions_of, MayFollow}
 use Rattle.script_text.proofs.Ids.{one_more, new_id, name_of_last, room_for}
 use Rattle.script_text.proofs.Peel.{same_id}

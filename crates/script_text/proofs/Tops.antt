@@ -3,7 +3,7 @@ use Rattle.std.proofs.Common.{◌≡◌, ℕ, List, [], ◌∷◌, ◌++◌, ref
 use Rattle.std.specs.Prelude.{codes}
 use Rattle.script_text.specs.Lines.{lines_of, LacksFirst}
 use Rattle.script_text.specs.Script.{IsName, id_line, fleet_lines}
-use Rattle.script_text.specs.Refused.{GoesOn, IsRefusedAt}
+use Rattle.script_text.specs.Refusals.{GoesOn, IsRefusedAt}
 use Rattle.script_text.proofs.Peel.{tails}
 use Rattle.script_text.proofs.Follow.{fleet_goes}
 use Rattle.script_text.proofs.Ids.{one_name}

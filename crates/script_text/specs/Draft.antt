@@ -8,7 +8,7 @@ use Rattle.script_text.specs.declared.draft.Draft.{Draft}
 use Rattle.script_text.specs.declared.draft.Stage.{Stage}
 use Rattle.script_text.specs.declared.draft.Stage.TheVariants as stage
 use Rattle.script_text.specs.Script.{HasIds, MayStand, IsScript, turn_line, id_line, fleet_lines, schedule_lines, script_lines}
-use Rattle.script_text.specs.Refused.{GoesOn}
+use Rattle.script_text.specs.Refusals.{GoesOn}
 
 -- No public contract cites it.
 -- the lines that were read up to a stage, where `last` is the id of the minion that was begun last

@@ -1,7 +1,7 @@
 //! The reader of a script.
 ghost use Rattle.std.specs.Prelude.{◌≡◌, ◌≤◌, ℕ, length, IfOk, IsErrOf};
 ghost use Rattle.script_text.specs.Script.{Spells, most_script_bytes};
-ghost use Rattle.script_text.specs.Refused.{IsRefusedAt};
+ghost use Rattle.script_text.specs.Refusals.{IsRefusedAt};
 
 use crate::draft::Draft;
 use crate::lines::cut_line;

@@ -1,7 +1,7 @@
 //! The lines of the top.
 ghost use Rattle.std.specs.Prelude.{◌≡◌, ◌∷◌, IfOk, IfErr, IfSome, IfNone};
 ghost use Rattle.script_text.specs.Lines.{lines_of, LacksFirst};
-ghost use Rattle.script_text.specs.Refused.{IsRefusedAt};
+ghost use Rattle.script_text.specs.Refusals.{IsRefusedAt};
 ghost use Rattle.script_text.specs.Top.{HasFirstId, LacksFirstId, HasTop};
 
 use crate::lines::cut_line;

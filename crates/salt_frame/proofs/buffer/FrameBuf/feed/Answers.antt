@@ -1,8 +1,8 @@
 use Rattle.std.proofs.Common.{◌≡◌, ◌≤◌, ◌+◌, ◌-◌, ◌++◌, inl, inr, ℕ, List, length, take, drop, Some, None, Err, sym, ap, subst, ◌∙◌, arith}
 use Rattle.std.proofs.lemmas.List.{length-take}
 use Rattle.salt_frame.specs.declared.fault.FeedFault.TheVariants as faults
-use Rattle.salt_frame.specs.Held.{Held}
-use Rattle.salt_frame.specs.Inside.{AreFrames, IsTail}
+use Rattle.salt_frame.specs.Buffer.{Held}
+use Rattle.salt_frame.specs.BufferFields.{AreFrames, IsTail}
 use Rattle.salt_frame.proofs.FeedLemmas.{fed, ok_of, over_of, partial_of, over_room, cut_ready, cut_last, over_held, partial_held, only_over, same_over, no_over}
 use Rattle.salt_frame.proofs.HoldLemmas.{again, added}
 use Rattle.salt_frame.proofs.buffer.FrameBuf.feed.Goals as goal

@@ -3,7 +3,7 @@ use Rattle.std.specs.Prelude.{◌≡◌, ◌≤◌, ◌-◌, ◌<◌, ◌^◌, �
 use Rattle.std.specs.Int.{w32, to_be_bytes}
 use Rattle.std.specs.List.{AllByRecursion}
 use Rattle.salt_frame.specs.Frames.{frames, limit, IsBody, IsPartial}
-use Rattle.salt_frame.specs.Held.{Held}
+use Rattle.salt_frame.specs.Buffer.{Held}
 use Rattle.salt_frame.specs.declared.buffer.FrameBuf.TheInside.{Inside}
 
 -- what a buffer's fields hold
