@@ -26,11 +26,11 @@ pub struct FrameBuf {
 }
 
 impl Model for FrameBuf {
-    ghost use Rattle.salt_frame.specs.Buffer.{Held, held_code};
+    ghost use Rattle.salt_frame.specs.Buffer.{BufferState, buffer_code};
 
-    ghost Value = { Held };
+    ghost Value = { BufferState };
 
-    ghost coded = { held_code };
+    ghost coded = { buffer_code };
 
     ghost use Rattle.salt_frame.specs.BufferFields.{view_of, IsInside};
 
