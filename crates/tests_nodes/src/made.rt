@@ -243,7 +243,7 @@ fn job_of(
     ensures value { JobFits result }
 {
     let jid = Jid::next(None, moment).expect(rt, FAILED);
-    let tgt = text(rt, alloc, tgt);
+    let tgt = Text::new(String::from_str(alloc, tgt).expect(rt, FAILED));
     let _micros = jid.micros();
     let _text = tgt.as_str();
     let _word = fun.as_bytes();

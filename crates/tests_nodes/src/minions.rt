@@ -1,5 +1,5 @@
 //! Minions, and the flat fleet that every report is measured by.
-ghost use Rattle.std.specs.Prelude.{◌≡◌, ◌++◌, map, OnOk};
+ghost use Rattle.std.specs.Prelude.{◌≡◌, ◌++◌, map, IfOk, OnOk};
 ghost use Rattle.minion_core.specs.Limits.{DeedFits};
 ghost use Rattle.salt_wire.specs.Limits.{JobFits};
 
@@ -257,15 +257,21 @@ fn jobs(rt: &impl Abort, alloc: Global, orders: &[Order]) -> Vec<Job> {
     jobs
 }
 
+fn matcher_of(alloc: Global, job: &Job) -> Result<Matcher, AllocError>
+    ensures ok { IfOk result (λ matcher. matcher ≡ job.now.target) }
+{
+    match Matcher::build(alloc, job.target.get()) {
+        Ok(matcher) => Ok(matcher),
+        Err(_) => Err(AllocError),
+    }
+}
+
 // The matcher of each job more.
 fn push_matchers(alloc: Global, jobs: &[Job], matchers: &mut Vec<Matcher>) -> Result<(), AllocError>
     ensures ok { OnOk result (matchers.new.items ≡ matchers.old.items ++ map (λ job. job.target) jobs.now) }
 {
     for job in jobs {
-        let Ok(matcher) = Matcher::build(alloc, job.target.get()) else {
-            return Err(AllocError);
-        };
-        matchers.push(matcher)?;
+        matchers.push(matcher_of(alloc, job)?)?;
     }
     Ok(())
 }
