@@ -3,7 +3,7 @@ use Rattle.std.specs.Prelude.{ℕ, Bool, false, List, [], codes, Option, None, S
 use Rattle.salt_value.specs.declared.value.Value.{Value}
 use Rattle.salt_value.specs.declared.value.Value.TheVariants as v
 use Rattle.salt_value.specs.Keys.{under}
-use Rattle.salt_value.specs.Same.{same}
+use Rattle.salt_value.specs.Equality.{same}
 use Rattle.salt_value.specs.PairChanges.{with_pair, without_key}
 use Rattle.exec_functions.specs.declared.holdings.Change.{Change}
 use Rattle.exec_functions.specs.declared.holdings.Change.TheVariants.{Nothing}

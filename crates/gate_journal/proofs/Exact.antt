@@ -6,7 +6,7 @@ use Rattle.std.specs.Int.{w32, w64, from_be_bytes}
 use Rattle.byteorder.specs.Endian.{big_bytes}
 use Rattle.gate_journal.specs.Layout.{journal_name}
 use Rattle.gate_journal.specs.Journal.{record_of, records, header, IsJournal}
-use Rattle.gate_journal.specs.Read.{limit_in, IsNoJournal, IsBroken, IsDamagedAt}
+use Rattle.gate_journal.specs.Damage.{limit_in, IsNoJournal, IsBroken, IsDamagedAt}
 use Rattle.gate_journal.proofs.Unique.{same_number, same_back, same_front}
 
 number_of : (n : ℕ) (behind : List ℕ) → n < 2 ^ 32 → from_be_bytes w32 (take 4 (big_bytes 4 n ++ behind)) ≡ n

@@ -7,7 +7,7 @@ use Rattle.salt_disk.specs.Crash.{Image, IsPartImage, MayLeave, LeavesOnly, Writ
 use Rattle.salt_disk.proofs.Moments.{one_call, stays_on}
 use Rattle.salt_disk.proofs.Torn.{settled_image}
 use Rattle.gate_journal.specs.Journal.{record_of, records, header, fresh_journal, IsJournal}
-use Rattle.gate_journal.specs.Fresh.{IsFresh, HoldsNothing}
+use Rattle.gate_journal.specs.Creation.{IsFresh, HoldsNothing}
 use Rattle.gate_journal.proofs.Store.{length-journal}
 
 records_none : (payloads : List (List ℕ)) → length (records payloads) ≤ 0 → payloads ≡ []

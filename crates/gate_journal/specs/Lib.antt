@@ -2,8 +2,8 @@ pub mod Layout
 pub mod Journal
 pub mod Payloads
 pub mod Calls
-pub mod Read
+pub mod Damage
 pub mod Load
-pub mod Fresh
+pub mod Creation
 pub mod Append
 pub mod Storage

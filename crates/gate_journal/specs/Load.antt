@@ -7,7 +7,7 @@ use Rattle.gate_journal.specs.declared.fault.LoadFault.{LoadFault}
 use Rattle.gate_journal.specs.declared.fault.LoadFault.TheVariants.{NotAJournal, Damaged}
 use Rattle.gate_journal.specs.Journal.{JournalState, IsJournal}
 use Rattle.gate_journal.specs.Payloads.{PlacedPayloads}
-use Rattle.gate_journal.specs.Read.{IsNoJournal, IsDamagedAt, IsAccepted, IsRefused}
+use Rattle.gate_journal.specs.Damage.{IsNoJournal, IsDamagedAt, IsAccepted, IsRefused}
 
 -- The journal stands on this part, and is up.
 pub record IsUpOn (part : Part) (journal : JournalState) : Type 0 where

@@ -12,7 +12,7 @@ use Rattle.salt_disk.specs.Crash.{LeavesOnly}
 use Rattle.gate_journal.specs.Layout.{least_limit, greatest_limit, first_gate, fresh_length, record_overhead}
 use Rattle.gate_journal.specs.Journal.{IsJournal, Rests, IsNext, HoldsOldOrNew, StoppedAppend, header, journal_length}
 use Rattle.gate_journal.specs.Payloads.{PlacedPayloads}
-use Rattle.gate_journal.specs.Read.{IsBroken}
+use Rattle.gate_journal.specs.Damage.{IsBroken}
 
 -- A journal of this length stands on the part, at rest. No public contract cites it.
 abbrev pub HasJournal : ℕ → PartState → Type 0

@@ -5,7 +5,7 @@ ghost use Rattle.gate_journal.specs.Layout.{least_limit, greatest_limit, first_g
 ghost use Rattle.gate_journal.specs.Journal.{HoldsPayloads};
 ghost use Rattle.gate_journal.specs.Calls.{KeepsBytes, KeepsOthers, SettlesUnless, LeavesAsBefore, BurnsUnless, BurnsAtOk};
 ghost use Rattle.gate_journal.specs.Load.{IsUpOn, TellsNoJournal, TellsDamage, AnswersEach};
-ghost use Rattle.gate_journal.specs.Fresh.{IsFresh, LeavesNothingIfShort, LeavesAsBeforeIfLong, TellsNotEmpty, RefusesLong, StaysIfLong};
+ghost use Rattle.gate_journal.specs.Creation.{IsFresh, LeavesNothingIfShort, LeavesAsBeforeIfLong, TellsNotEmpty, RefusesLong, StaysIfLong};
 ghost use Rattle.gate_journal.specs.Append.{after_append, StandsOn, HoldsAfter, LeavesOldOrNew, LeavesByAnswer, LeavesAsBeforeIfDown, BurnsByAppend, DownExactly, FullExactly};
 ghost use Rattle.salt_outside.specs.Causes.{CountsFailures};
 

@@ -6,7 +6,7 @@ ghost use Rattle.salt_outside.specs.Causes.{CountsFailures};
 ghost use Rattle.salt_disk.specs.Fuse.{Lasts};
 ghost use Rattle.gate_journal.specs.Calls.{KeepsBytes, KeepsOthers, SettlesUnless, LeavesAsBefore, BurnsUnless};
 ghost use Rattle.gate_journal.specs.Storage.{ReadsWhole, HasHeader, ReadsRecord, ReadsAs};
-ghost use Rattle.gate_journal.specs.Read.{IsNoJournal, IsDamagedAt};
+ghost use Rattle.gate_journal.specs.Damage.{IsNoJournal, IsDamagedAt};
 
 use crate::{
     FIRST_GATE, GREATEST_LIMIT, HEADER_BYTES, LEAST_LIMIT, NAME, OPEN_GATE, Payload, Payloads,

@@ -7,7 +7,7 @@ ghost use Rattle.byteorder.specs.Endian.{big_bytes};
 ghost use Rattle.gate_journal.specs.Layout.{least_limit, greatest_limit, fresh_length, closed_gate};
 ghost use Rattle.gate_journal.specs.Journal.{header, record_of, tail_of};
 ghost use Rattle.gate_journal.specs.Calls.{KeepsOthers};
-ghost use Rattle.gate_journal.specs.Fresh.{IsFresh, LeavesNothing};
+ghost use Rattle.gate_journal.specs.Creation.{IsFresh, LeavesNothing};
 ghost use Rattle.gate_journal.specs.Storage.{HasJournal, AddsNext, RestsAfterNoMemory, LeavesNext, StopsNext};
 
 use crate::{CLOSED_GATE, HEADER_BYTES, NAME, OPEN_GATE, RECORD_OVERHEAD};

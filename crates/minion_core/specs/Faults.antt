@@ -2,7 +2,7 @@
 use Rattle.std.specs.Prelude.{◌≡◌, Result, Ok, Err, None, Some}
 use Rattle.target_tree.specs.declared.target.Target.{Target}
 use Rattle.target_match.specs.Holds.{NamesBigPattern}
-use Rattle.target_match.specs.Unread.{unread_leaf}
+use Rattle.target_match.specs.Readability.{unread_leaf}
 use Rattle.minion_core.specs.declared.fault.RunFault.{RunFault}
 use Rattle.minion_core.specs.declared.fault.RunFault.TheVariants.{NoMemory, BadPattern, TooBig}
 

@@ -1,10 +1,12 @@
 //! Whether the target of a job holds for a minion.
-ghost use Rattle.std.specs.Prelude.{◌≡◌, IfOk};
+ghost use Rattle.std.specs.Prelude.{◌≡◌, IfOk, IfSome};
 ghost use Rattle.minion_core.specs.Flat as spec;
 ghost use Rattle.minion_core.specs.Faults.{IsRunFault};
+ghost use Rattle.minion_core.specs.Globs.{IsAnswerById};
 
 use crate::RunFault;
 use exec_functions::Holdings;
+use salt_glob::glob;
 use salt_value::MinionId;
 use salt_wire::Job;
 use std::alloc::{AllocError, Global};
@@ -24,11 +26,24 @@ fn matcher_of(alloc: Global, target: &Target) -> Result<Matcher, RunFault>
     }
 }
 
+// What a target that is one glob of ids answers: there is nothing to make ready.
+fn holds_by_glob(job: &Job, id: &MinionId) -> Option<bool>
+    ensures { IfSome result (IsAnswerById job.now id.now) }
+{
+    match job.target.get() {
+        Target::IdGlob(text) => Some(glob(text.as_bytes(), id.as_bytes())),
+        _ => None,
+    }
+}
+
 /// Whether the target of a job holds for a minion, by its id and by what it holds (Salt documentation, Targeting Minions).
 pub fn does_hold(alloc: Global, job: &Job, id: &MinionId, held: &Holdings) -> Result<bool, RunFault>
     ensures ok { IfOk result (λ b. b ≡ spec.does_hold job.now id.now held.now) }
     ensures fault { IsRunFault result job.now.target }
 {
+    if let Some(holds) = holds_by_glob(job, id) {
+        return Ok(holds);
+    }
     let matcher = matcher_of(alloc, job.target.get())?;
     Ok(does_hold_with(&matcher, job, id, held)?)
 }

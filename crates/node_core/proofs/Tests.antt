@@ -1,6 +1,6 @@
 -- Tests in two parts: those that come first, and those of a job that is run.
-use Rattle.std.proofs.Common.{◌≡◌, ℕ, ◌∙◌, sym, ap, refl, true, false, Bool, List, [], ◌∷◌, ◌++◌, Option, None, Some}
-use Rattle.std.specs.Prelude.{Result, Ok, Err, IfErr, ⊤}
+use Rattle.std.proofs.Common.{◌≡◌, ℕ, ◌∙◌, sym, ap, refl, true, false, Bool, List, [], ◌∷◌, ◌++◌, None, Some}
+use Rattle.std.specs.Prelude.{Result, Ok, Err, IfErr}
 use Rattle.fleet_config.specs.Causes.{first_cause}
 use Rattle.fleet_config.specs.Tree.{Tree}
 use Rattle.salt_wire.specs.declared.message.Message.{Message}

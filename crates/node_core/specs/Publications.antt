@@ -12,7 +12,7 @@ use Rattle.target_tree.specs.declared.kind.Kind.{Kind}
 use Rattle.target_tree.specs.declared.target.Target.{Target}
 use Rattle.target_tree.specs.declared.fault.TargetFault.{TargetFault}
 use Rattle.target_match.specs.Holds.{NamesBigPattern}
-use Rattle.target_match.specs.Unread.{unread_leaf}
+use Rattle.target_match.specs.Readability.{unread_leaf}
 use Rattle.salt_wire.specs.FitTest.{tree_fits}
 use Rattle.salt_wire.specs.declared.message.Job.{Job}
 use Rattle.salt_wire.specs.declared.deed.Deed.TheVariants.{Publish}

@@ -1,4 +1,4 @@
--- What the parts of a publication answer, and what a node answers to a job. No public contract cites these.
+-- What the parts of a publication, of a message that is taken and of the messages for a neighbour do. No public contract cites these.
 use Rattle.std.specs.Prelude.{ℕ, ◌≡◌, ◌<◌, ◌++◌, ◌∷◌, [], ⊤, Bool, true, false, List, length, take, drop, Result, Ok, Err, Option, None, Some}
 use Rattle.salt_value.specs.WellFormed.{ValueFits}
 use Rattle.salt_value.specs.declared.value.Value.{Value}
@@ -7,7 +7,7 @@ use Rattle.target_tree.specs.declared.target.Target.{Target}
 use Rattle.target_tree.specs.declared.fault.TargetFault.{TargetFault}
 use Rattle.target_tree.specs.declared.fault.TargetFault.TheVariants as fault
 use Rattle.target_match.specs.Holds.{NamesBigPattern}
-use Rattle.target_match.specs.Unread.{unread_leaf}
+use Rattle.target_match.specs.Readability.{unread_leaf}
 use Rattle.salt_wire.specs.Limits.{TreeFits}
 use Rattle.salt_wire.specs.declared.message.Job.{Job}
 use Rattle.fleet_config.specs.Fleet.{FleetConfig}

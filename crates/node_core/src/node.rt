@@ -1,32 +1,25 @@
 //! A node, and the calls on it.
-ghost use Rattle.std.specs.Prelude.{◌≡◌, ◌≢◌, ◌++◌, ◌∷◌, [], ◌<◌, ◌≤◌, ◌+◌, ◌-◌, ◌==◌, ◌^◌, ℕ, List, Option, Some, None, Ok, Err, true, false, not, drop, take, length, All, IfOk, IfErr, IfSome, OnOk, OnErr, IsOk, IsErrOf, if◌then◌else◌};
+ghost use Rattle.std.specs.Prelude.{◌≡◌, ◌<◌, ◌≤◌, ◌+◌, ◌-◌, ◌==◌, ◌^◌, Option, Some, None, Ok, Err, true, false, not, take, length, All, IfOk, IfErr, IfSome, OnOk, OnErr, IsErrOf, if◌then◌else◌};
 ghost use Rattle.std.specs.Option.{option_copied};
 ghost use Rattle.fleet_config.specs.Limits.{most_jobs};
-ghost use Rattle.fleet_config.specs.Tree as tree;
 ghost use Rattle.node_core.specs.Logs.{IsJobRecord};
 ghost use Rattle.node_core.specs.Publications.{order, Publishes, IsPublishFault};
 ghost use Rattle.node_core.specs.Steps.{IsRunBy, IsRunAnswer, booted_minion, first_stray_of, up_stray, Accepts, AcceptsJob, AcceptsEntry, after_job, after_run, AddsUps};
 ghost use Rattle.minion_core.specs.Faults.{IsRunFault};
-ghost use Rattle.fleet_config.specs.Causes as causes;
 ghost use Rattle.exec_functions.specs.Limits.{AreWithin};
 ghost use Rattle.salt_wire.specs.Limits.{JobFits};
-ghost use Rattle.salt_value.specs.WellFormed.{ValueFits};
 ghost use Rattle.salt_value.specs.declared.value.Value.TheVariants as v;
-ghost use Rattle.node_core.specs.Node.Answer.{IsStray};
-ghost use Rattle.node_core.specs.declared.faults.TakeFault.TheVariants as take;
 ghost use Rattle.node_core.specs.declared.faults.PendFault.TheVariants.{NotNeighbour};
-ghost use Rattle.node_core.specs.declared.faults.PublishFault.TheVariants as publish;
-ghost use Rattle.salt_wire.specs.declared.message.Message.TheVariants as m;
 
 use crate::counts::Counts;
 use crate::logs::Logs;
+use crate::publishing::order_job;
 use crate::recording::{push_both, push_run, push_up};
 use crate::sending::{push_entries, push_pubs};
 use crate::strays::{
-    first_cause, is_below, is_first, is_here, is_later, is_neighbour, names_held,
-    place_of, return_of, seq_of, stray_other, take_fault,
+    first_cause, is_below, is_first, is_here, is_later, is_neighbour, names_held, place_of,
+    return_of, seq_of, stray_other, take_fault,
 };
-use crate::publishing::order_job;
 use crate::{PendFault, PublishFault, Stray, TakeFault};
 use exec_functions::Holdings;
 use fleet_config::{Fleet, MOST_JOBS};
@@ -175,15 +168,11 @@ impl Node {
         fun: &Word,
         args: &[Value],
     ) -> Result<Jid, PublishFault>
-        ensures ok {
-            IfOk result (Publishes fleet.now moment (order kind tgt.now fun.now args.now)
-            self.old self.new)
-        }
+        ensures ok { IfOk result (Publishes fleet.now moment
+            (order kind tgt.now fun.now args.now) self.old self.new) }
         ensures err { OnErr result (self.new ≡ self.old) }
-        ensures fault {
-            IfErr result (IsPublishFault fleet.now moment (order kind tgt.now fun.now args.now)
-            self.old)
-        }
+        ensures fault { IfErr result (IsPublishFault fleet.now moment
+            (order kind tgt.now fun.now args.now) self.old) }
     {
         let jobs = self.jobs();
         let job = order_job(self.alloc, fleet, moment, kind, tgt, fun, args, jobs)?;
@@ -257,9 +246,8 @@ impl Node {
         requires place { minion < length fleet.now.tree }
         requires room { length out.old.items ≤ max }
         requires fits { All Within out.old.items }
-        ensures ok {
-            OnOk result (AddsUps fleet.now.tree self.now minion max out.old.items out.new.items)
-        }
+        ensures ok { OnOk result (AddsUps fleet.now.tree self.now minion max
+            out.old.items out.new.items) }
         ensures fits { OnOk result (All Within out.new.items) }
     {
         let id = fleet.id(minion);

@@ -2,7 +2,7 @@
 ghost use Rattle.std.specs.Prelude.{◌≡◌, ◌≤◌, ◌<◌, None, Ok, length, IfOk, IfErr, OnOk};
 ghost use Rattle.fleet_config.specs.Limits.{most_jobs};
 ghost use Rattle.target_tree.specs.Machine.{machine_tree};
-ghost use Rattle.target_match.specs.Unread.{unread_leaf};
+ghost use Rattle.target_match.specs.Readability.{unread_leaf};
 ghost use Rattle.salt_value.specs.WellFormed.{ValueFits};
 ghost use Rattle.salt_value.specs.declared.value.Value.TheVariants as v;
 ghost use Rattle.salt_wire.specs.Limits.{JobFits, TreeFits, most_target_bytes};

@@ -5,8 +5,8 @@ use Rattle.std.specs.List.{AllByRecursion}
 use Rattle.std.proofs.lemmas.List.{drop_at, length-take, length-drop, drop-drop, take-append-drop, take-append-le, drop-append-le, take-take}
 use Rattle.std.proofs.lemmas.List.Concat.{flat_map-cons}
 use Rattle.salt_frame.specs.Frames.{frame, frames, IsBody, IsPartial, IsOver, Ends, Splits, HasOver}
-use Rattle.salt_frame.specs.Held.{Held, HoldsRest}
-use Rattle.salt_frame.specs.Inside.{AreFrames, IsTail}
+use Rattle.salt_frame.specs.Buffer.{BufferState, HoldsRest}
+use Rattle.salt_frame.specs.BufferFields.{AreFrames, IsTail}
 use Rattle.salt_frame.proofs.Readings.{one}
 
 pub frames_join : (xs ys : List (List ℕ)) → frames (xs ++ ys) ≡ frames xs ++ frames ys
@@ -90,7 +90,7 @@ holds_over s w n d le within r o =
     record { others = r.0; rest = drop w d; reads = record { splits = splits s w d le r; ends = o }; kept = kept }
 
 -- a stream whose length over the limit is n has no other end
-pub only_over : (n : ℕ) (stream : List ℕ) (h : Held) → HasOver n stream → HoldsRest stream [] h → h.over ≡ Some n
+pub only_over : (n : ℕ) (stream : List ℕ) (h : BufferState) → HasOver n stream → HoldsRest stream [] h → h.over ≡ Some n
 only_over n stream h o g = sym (one stream o.0 g.others (Some n) h.over o.1 g.rest o.2 g.reads).1
 
 pub ok_of : {A E : Type 0} (r : Result A E) → is_err r ≡ false → is_ok r ≡ true
@@ -142,7 +142,7 @@ over_held s w w' n over bs piece d cut kept f e k c =
 
 -- a feed after which no length over the limit stands there
 pub partial_held : (s w w' : ℕ) (over : Option ℕ) (bs piece d kept : List ℕ) (own : Option ℕ) → Fed s w w' over bs piece d → over ≡ None → drop s bs ≡ kept → own ≡ None
-    → (◌≡◌ {A = Held} (record { kept = drop s d; over = own }) (record { kept = kept ++ piece; over = None })) × HoldsRest (kept ++ piece) [] (record { kept = drop s d; over = own })
+    → (◌≡◌ {A = BufferState} (record { kept = drop s d; over = own }) (record { kept = kept ++ piece; over = None })) × HoldsRest (kept ++ piece) [] (record { kept = drop s d; over = own })
 partial_held s w w' over bs piece d kept own f e k o =
     let le : s ≤ w' = omega (arith, f.ordered, f.next) in
     let stream : drop s d ≡ kept ++ piece = feed_kept s bs piece d f.items (omega (arith, f.ordered, f.small)) ∙ ap (λ l. l ++ piece) k in (

@@ -7,7 +7,7 @@ use Rattle.std.proofs.lemmas.Bool.{cases_lt}
 use Rattle.std.proofs.lemmas.List.Concat.{flat_map-cons}
 use Rattle.std.proofs.lemmas.Nat.{from_be_bytes-to_be_bytes_4, be_bytes_4}
 use Rattle.salt_frame.specs.Frames.{frame, frames, IsBody, length_at}
-use Rattle.salt_frame.specs.Inside.{AreFrames}
+use Rattle.salt_frame.specs.BufferFields.{AreFrames}
 
 pub record Front (m : ℕ) (kept : List ℕ) (body : List ℕ) : Type 0 where
   pub fits : IsBody body

@@ -5,7 +5,7 @@ use Rattle.std.specs.List.{AllByRecursion}
 use Rattle.std.proofs.lemmas.List.{append-nil}
 use Rattle.std.proofs.lemmas.List.Concat.{flat_map-cons}
 use Rattle.salt_frame.specs.Frames.{frame, frames, IsBody, IsOver, Ends, Reads}
-use Rattle.salt_frame.specs.Held.{Held, kept_of, HoldsRest, Lends, TakesNext}
+use Rattle.salt_frame.specs.Buffer.{BufferState, kept_of, HoldsRest, Lends, TakesNext}
 use Rattle.salt_frame.proofs.Readings.{prefix_free, not_ends}
 use Rattle.salt_frame.proofs.FeedLemmas.{frames_join, all_join, all_first}
 
@@ -25,7 +25,7 @@ kept_none : (over : Option ℕ) (x : List ℕ) → over ≡ None → kept_of ove
 kept_none None x e = refl
 kept_none (Some m) x e = absurd cc
 
-pub again : (s p : List ℕ) (taken : List (List ℕ)) (old : Held) (n : ℕ) → old.over ≡ Some n → HoldsRest s taken old → HoldsRest (s ++ p) taken old
+pub again : (s p : List ℕ) (taken : List (List ℕ)) (old : BufferState) (n : ℕ) → old.over ≡ Some n → HoldsRest s taken old → HoldsRest (s ++ p) taken old
 again s p taken old n e h = record {
   others = h.others;
   rest = h.rest ++ p;
@@ -40,12 +40,12 @@ again s p taken old n e h = record {
 }
 
 -- the stream is what was taken and what is kept
-all_kept : (s : List ℕ) (taken : List (List ℕ)) (old : Held) → old.over ≡ None → HoldsRest s taken old → s ≡ frames taken ++ old.kept
+all_kept : (s : List ℕ) (taken : List (List ℕ)) (old : BufferState) → old.over ≡ None → HoldsRest s taken old → s ≡ frames taken ++ old.kept
 all_kept s taken old e h =
     h.reads.splits.whole ∙ ap (λ l. l ++ h.rest) (frames_join taken h.others) ∙ append_assoc (frames taken) (frames h.others) h.rest
     ∙ ap (λ l. frames taken ++ l) (ap (λ l. frames h.others ++ l) (sym (kept_none old.over h.rest e)) ∙ sym h.kept)
 
-pub added : (s p : List ℕ) (taken : List (List ℕ)) (old new : Held) → old.over ≡ None → HoldsRest s taken old → HoldsRest (old.kept ++ p) [] new → HoldsRest (s ++ p) taken new
+pub added : (s p : List ℕ) (taken : List (List ℕ)) (old new : BufferState) → old.over ≡ None → HoldsRest s taken old → HoldsRest (old.kept ++ p) [] new → HoldsRest (s ++ p) taken new
 added s p taken old new e h g = record {
   others = g.others;
   rest = g.rest;
@@ -65,7 +65,7 @@ not_kept : (over : Option ℕ) (x b y : List ℕ) → Ends over x → IsBody b �
 not_kept None x b y e h same = not_ends None b y h (subst (Ends None) same e)
 not_kept (Some n) x b y e h same = not_ends (Some n) b y h (subst (Ends (Some n)) same (e.0, e.1, ([], sym (append-nil (to_be_bytes w32 n)))))
 
-one_taken : (s : List ℕ) (taken : List (List ℕ)) (new : Held) (others : List (List ℕ)) (rest b : List ℕ) → Reads s (taken ++ others) new.over rest → IsBody b
+one_taken : (s : List ℕ) (taken : List (List ℕ)) (new : BufferState) (others : List (List ℕ)) (rest b : List ℕ) → Reads s (taken ++ others) new.over rest → IsBody b
     → frames others ++ kept_of new.over rest ≡ frame b ++ new.kept → HoldsRest s (taken ++ b ∷ []) new
 one_taken s taken new [] rest b r h e = absurd (not_kept new.over rest b new.kept r.ends h e)
 one_taken s taken new (c ∷ cs) rest b r h e =
@@ -84,12 +84,12 @@ one_taken s taken new (c ∷ cs) rest b r h e =
       all_other [] ys h = h
       all_other (x ∷ xs) ys h = all_other xs ys h.1
 
-lent : (old new : Held) (b : List ℕ) → IsBody b → old.kept ≡ frame b ++ new.kept → new.over ≡ old.over → Lends old b new
+lent : (old new : BufferState) (b : List ℕ) → IsBody b → old.kept ≡ frame b ++ new.kept → new.over ≡ old.over → Lends old b new
 lent old new b fits k o s taken h =
     one_taken s taken new h.others h.rest b (subst (λ o. Reads s (taken ++ h.others) o h.rest) (sym o) h.reads) fits
     (ap (λ o. frames h.others ++ kept_of o h.rest) o ∙ sym h.kept ∙ k)
 
-pub taken : (old : Held) (x more : List ℕ) (over : Option ℕ) → IsBody x → old.kept ≡ frame x ++ more → over ≡ old.over → TakesNext old (Some x) (record { kept = more; over = over })
+pub taken : (old : BufferState) (x more : List ℕ) (over : Option ℕ) → IsBody x → old.kept ≡ frame x ++ more → over ≡ old.over → TakesNext old (Some x) (record { kept = more; over = over })
 taken old x more over h k o = record {
   some = λ body e. let s : x ≡ body = cc in (subst IsBody s h, k ∙ ap (λ b. frame b ++ more) s, o);
   none = λ e. absurd cc;

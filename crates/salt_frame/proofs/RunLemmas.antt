@@ -1,10 +1,10 @@
 -- However the stream is cut into feeds, the buffer holds what was not taken of it.
 use Rattle.std.proofs.Common.{inl, List, [], ◌∷◌, ◌++◌, ℕ, None, refl, sym, subst, append_assoc, arith}
 use Rattle.std.proofs.lemmas.List.{append-nil}
-use Rattle.salt_frame.specs.Held.{Held, HoldsRest}
+use Rattle.salt_frame.specs.Buffer.{BufferState, HoldsRest}
 use Rattle.salt_frame.specs.Runs.{Event, fed, took, Runs, stream, bodies, AnyCutting}
 
-holds : (es : List Event) (s : List ℕ) (taken : List (List ℕ)) (old new : Held) → HoldsRest s taken old → Runs old es new → HoldsRest (s ++ stream es) (taken ++ bodies es) new
+holds : (es : List Event) (s : List ℕ) (taken : List (List ℕ)) (old new : BufferState) → HoldsRest s taken old → Runs old es new → HoldsRest (s ++ stream es) (taken ++ bodies es) new
 holds [] s taken old new h r =
     subst (λ (l : List ℕ). HoldsRest l (taken ++ []) new) (sym (append-nil s))
     (subst (λ (l : List (List ℕ)). HoldsRest s l new) (sym (append-nil taken)) (subst (HoldsRest s taken) (sym r) h))

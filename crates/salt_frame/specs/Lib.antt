@@ -1,6 +1,6 @@
 pub mod Frames
 pub mod Fronts
-pub mod Held
-pub mod Inside
+pub mod Buffer
+pub mod BufferFields
 pub mod Laws
 pub mod Runs

@@ -2,7 +2,7 @@
 ghost use Rattle.std.specs.Prelude.{◌≡◌, ◌⊎◌, [], length, None, OnOk, IsErrOf};
 ghost use Rattle.std.specs.Borrow.{sem};
 ghost use Rattle.std.specs.Io.BufRead.{Rests};
-ghost use Rattle.salt_frame.specs.Held.{KeepsPiece, Feeds, HoldsOver, AnswersOver, AnswersOverAgain, LendsNext};
+ghost use Rattle.salt_frame.specs.Buffer.{KeepsPiece, Feeds, HoldsOver, AnswersOver, AnswersOverAgain, LendsNext};
 ghost use Rattle.salt_frame.specs.contracts.buffer.FrameBuf.{the_row};
 
 use crate::FeedFault;
@@ -26,13 +26,13 @@ pub struct FrameBuf {
 }
 
 impl Model for FrameBuf {
-    ghost use Rattle.salt_frame.specs.Held.{Held, held_code};
+    ghost use Rattle.salt_frame.specs.Buffer.{BufferState, buffer_code};
 
-    ghost Value = { Held };
+    ghost Value = { BufferState };
 
-    ghost coded = { held_code };
+    ghost coded = { buffer_code };
 
-    ghost use Rattle.salt_frame.specs.Inside.{view_of, IsInside};
+    ghost use Rattle.salt_frame.specs.BufferFields.{view_of, IsInside};
 
     ghost view = { view_of };
 

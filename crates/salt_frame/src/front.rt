@@ -2,7 +2,7 @@
 ghost use Rattle.std.specs.Prelude.{◌≡◌, ◌≤◌, ◌-◌, take, drop, length};
 ghost use Rattle.salt_frame.specs.Frames.{length_at, Ends};
 ghost use Rattle.salt_frame.specs.Fronts.{IsFront};
-ghost use Rattle.salt_frame.specs.Inside.{AreFrames};
+ghost use Rattle.salt_frame.specs.BufferFields.{AreFrames};
 
 /// The most bytes that a body has.
 const LIMIT: usize = 1_048_576;

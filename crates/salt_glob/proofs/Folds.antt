@@ -7,7 +7,7 @@ use Rattle.std.proofs.Math.ListN.{get_or-map}
 use Rattle.std.proofs.lemmas.List.{drop-map, take-map, length-map, take_all, get_or-drop}
 use Rattle.memchr.specs.Find.{IsFirstByte, is_byte2}
 use Rattle.std.proofs.lemmas.Bool.Decides.{nat_tests}
-use Rattle.salt_glob.specs.Lowered.{lower_case, matcher_bytes}
+use Rattle.salt_glob.specs.LowerCase.{lower_case, matcher_bytes}
 
 -- one byte as it is read
 abbrev pub fold_byte : Bool → ℕ → ℕ

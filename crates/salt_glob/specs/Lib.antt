@@ -1,5 +1,5 @@
 pub mod Classes
 pub mod Globs
 pub mod Fronts
-pub mod Lowered
+pub mod LowerCase
 pub mod Places

@@ -2,7 +2,7 @@
 use Rattle.std.specs.Prelude.{◌≡◌, ◌≢◌, ◌<◌, ◌≤◌, ◌+◌, ◌||◌, ℕ, Bool, List, length, drop, Option, Some, None, option_map, slice_index}
 use Rattle.salt_glob.specs.Classes.{Class, class_in, class_size, is_member}
 use Rattle.salt_glob.specs.Globs.{piece_at, bytes_taken, MatchesAt}
-use Rattle.salt_glob.specs.Lowered.{matcher_bytes}
+use Rattle.salt_glob.specs.LowerCase.{matcher_bytes}
 use Rattle.salt_glob.specs.declared.class.Class as places
 
 -- ---- classes

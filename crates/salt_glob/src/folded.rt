@@ -1,7 +1,7 @@
 //! A pattern or a text as a matcher reads it.
 ghost use Rattle.std.specs.Prelude.{◌≡◌, ◌≤◌, ◌<◌, ◌^◌, ◌==◌, ℕ, List, true, false, nat_lt, length, drop, position, slice_index, slice_range, IfSome, IfNone};
 ghost use Rattle.std.specs.List.{list_any, list_all};
-ghost use Rattle.salt_glob.specs.Lowered.{lower_case, matcher_bytes};
+ghost use Rattle.salt_glob.specs.LowerCase.{lower_case, matcher_bytes};
 ghost use Rattle.salt_glob.specs.Places.{PassesFrom, LacksFrom, PassesTo, LacksByte};
 
 use memchr::{memchr, memchr2};

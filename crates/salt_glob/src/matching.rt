@@ -2,7 +2,7 @@
 ghost use Rattle.std.specs.Prelude.{◌≡◌, ◌≤◌, ◌<◌, ◌+◌, ◌==◌, IfSome, IfNone, ◌↔◌, ℕ, nat_lt, [], length, drop, slice_index, IsTrue};
 ghost use Rattle.std.specs.List.{list_any, list_all};
 ghost use Rattle.salt_glob.specs.Globs as spec;
-ghost use Rattle.salt_glob.specs.Lowered.{lower_case, glob_caseless};
+ghost use Rattle.salt_glob.specs.LowerCase.{lower_case, glob_caseless};
 ghost use Rattle.salt_glob.specs.Places.{TakesByte, RefusesByte, StartsFrom, NeverStarts};
 
 use crate::class::{class_at, is_member};

@@ -1,5 +1,5 @@
 pub mod Causes
 pub mod Streams
 pub mod Memory
-pub mod Written
+pub mod StandardWrites
 pub mod Standard

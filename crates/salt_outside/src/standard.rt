@@ -1,7 +1,7 @@
 //! A source over a reader of std, and a sink over a writer.
 ghost use Rattle.std.specs.Prelude.{◌≡◌, ◌<◌, ◌≤◌, ℕ, length, take, None, IfOk, OnOk, IsErrOf, IsOkUnless};
 ghost use Rattle.salt_outside.specs.Causes.{next_count};
-ghost use Rattle.salt_outside.specs.Written.{AppendsAll, AppendsFront, ReadsKnown};
+ghost use Rattle.salt_outside.specs.StandardWrites.{AppendsAll, AppendsFront, ReadsKnown};
 
 use crate::{Outside, Sink, Source};
 use std::io;

@@ -12,7 +12,7 @@ use Rattle.tree_laws.specs.Laws.{AscendById, IsReportFlat}
 use Rattle.script_text.specs.declared.script.Script.{Script}
 use Rattle.script_text.specs.Script.{fleet_of}
 use Rattle.salt_replay.specs.Replay.{text_of_script, StaysSound}
-use Rattle.salt_replay.specs.Printed.{network_before, IsReportOf, IsPrinted}
+use Rattle.salt_replay.specs.Output.{network_before, IsReportOf, IsPrinted}
 
 abbrev pieces_of : FleetConfig → List Turn → Network → List (List ℕ)
 pieces_of f [] w = []

@@ -1,2 +1,2 @@
 pub mod Replay
-pub mod Printed
+pub mod Output

@@ -11,7 +11,7 @@ use Rattle.tree_world.specs.Text.{text_of, line}
 use Rattle.tree_laws.specs.Laws.{network_after, IsReportFlat, IsTaken}
 use Rattle.script_text.specs.declared.script.Script.{Script}
 use Rattle.script_text.specs.Script.{IsScript, Spells, MayStand, fleet_of, most_script_bytes}
-use Rattle.script_text.specs.Refused.{IsRefusedAt}
+use Rattle.script_text.specs.Refusals.{IsRefusedAt}
 use Rattle.salt_replay.specs.declared.replay.Status.{Status}
 
 -- the text of the network machine over a script

@@ -9,7 +9,7 @@ ghost use Rattle.tree_world.specs.Halts.{NeverTooBig};
 ghost use Rattle.tree_world.specs.Text.{text_of};
 ghost use Rattle.script_text.specs.Script.{IsScript, MayStand};
 ghost use Rattle.salt_replay.specs.Replay.{text_of_script, command, refused_line, IsLineTold, IsReplayStatus, IsNoCommand, ReadsScript, CountsReads, WritesScript, TellsLine, CountsWrites, Plays, StaysSound, MeetNoBigPatternEver};
-ghost use Rattle.salt_replay.specs.Printed.{IsPrinted, PrintsScripts};
+ghost use Rattle.salt_replay.specs.Output.{IsPrinted, PrintsScripts};
 ghost use Rattle.script_text.specs.declared.script.Script.{Script};
 
 use fleet_config::Fleet;

@@ -12,7 +12,7 @@ use Rattle.jiff_core.proofs.MarchLemmas.{leap_day, march_days-suc, day_count-lat
 use Rattle.jiff_core.proofs.DateLemmas.{epoch_day_injective, epoch_day_same}
 use Rattle.salt_value.specs.Jid.{Civil, year_month_day, clock_text, march_year, day_of_march_year, march_month, day_of_month, civil, jid_text, greatest_jid}
 use Rattle.salt_value.specs.Calendar.{HasParts, date_text}
-use Rattle.salt_value.specs.Told.{date_told, clock_told}
+use Rattle.salt_value.specs.DateNumbers.{date_told, clock_told}
 
 -- the years of the calculation, and their days
 split : (day : ℕ) → march_days (march_year day) + day_of_march_year day ≡ day + 719468

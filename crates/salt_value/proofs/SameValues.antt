@@ -6,7 +6,7 @@ use Rattle.std.proofs.lemmas.Slice.Eq.{bytes_eq-Decides}
 use Rattle.salt_value.specs.declared.value.Value.{Value, roll-Value, out-Value, roll-out-Value, out-roll-Value, fold-roll-Value}
 use Rattle.salt_value.specs.declared.value.Value.TheFolds.{ind-Value, map-Value}
 use Rattle.salt_value.specs.declared.value.Value.TheOpen.{Value-F}
-use Rattle.salt_value.specs.Same.{same, same_flag, same_items, same_pairs, same_layer, pair_tests}
+use Rattle.salt_value.specs.Equality.{same, same_flag, same_items, same_pairs, same_layer, pair_tests}
 use Rattle.salt_value.proofs.WriteLemmas.{both_true}
 use Rattle.salt_value.proofs.FitTests.{both}
 

@@ -5,7 +5,7 @@ pub mod IdLaws
 pub mod Word
 pub mod Jid
 pub mod Calendar
-pub mod Told
+pub mod DateNumbers
 pub mod Keys
 pub mod Scalar
 pub mod Child
@@ -13,7 +13,7 @@ pub mod Tags
 pub mod Spelling
 pub mod WellFormed
 pub mod FitTest
-pub mod Same
+pub mod Equality
 pub mod PairChanges
 pub mod FirstFault
 pub mod Readers

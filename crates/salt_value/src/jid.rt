@@ -1,7 +1,7 @@
 //! Job ids: moments in microseconds, and their text.
 ghost use Rattle.salt_value.specs.Jid as spec;
 ghost use Rattle.salt_value.specs.Calendar.{date_text, HasParts};
-ghost use Rattle.salt_value.specs.Told as told;
+ghost use Rattle.salt_value.specs.DateNumbers as told;
 ghost use Rattle.jiff_core.specs.Date.{epoch_day};
 ghost use Rattle.std.specs.Prelude.{◌≡◌, ◌≤◌, ◌<◌, ◌+◌, ◌^◌, length, pos, IfSome, IfNone};
 ghost use Rattle.std.specs.Result.{result_ok};
@@ -99,7 +99,7 @@ fn two_at(text: &[u8], i: usize) -> u64
 }
 
 // The microseconds since midnight that a text tells, right or not.
-#[tactic(auto, unfolding(crate::specs::Told::clock_told))]
+#[tactic(auto, unfolding(crate::specs::DateNumbers::clock_told))]
 fn clock_told(text: &[u8]) -> u64
     requires { length text.now ≡ 20 }
     ensures value { result ≡ told.clock_told text.now }

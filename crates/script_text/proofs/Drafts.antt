@@ -9,11 +9,11 @@ use Rattle.fleet_turns.specs.declared.turn.Turn.{Turn}
 use Rattle.script_text.specs.declared.draft.Draft.{Draft}
 use Rattle.script_text.specs.declared.draft.Stage.{Stage}
 use Rattle.script_text.specs.declared.draft.Stage.TheVariants as stage
-use Rattle.script_text.specs.Script.{IsName, HasIds, MayStand, turn_line, id_line, top_lines, fleet_lines}
+use Rattle.script_text.specs.Script.{IsName, MayStand, turn_line, id_line, top_lines, fleet_lines}
 use Rattle.indexmap.specs.IndexSet.{insert_key}
 use Rattle.script_text.specs.Fleet.{fleet_by, AreIds}
-use Rattle.script_text.specs.Refused.{GoesOn}
-use Rattle.script_text.specs.Draft.{IsOnly, IsRead, IsDraft, IsScriptOf, IsLineTaken, lines_until, draft_lines, minions_of}
+use Rattle.script_text.specs.Refusals.{GoesOn}
+use Rattle.script_text.specs.Draft.{IsOnly, IsRead, IsDraft, IsScriptOf, IsLineTaken, lines_until, draft_lines, minions_of, MayFollow}
 use Rattle.script_text.proofs.Ids.{one_more, new_id, name_of_last, room_for}
 use Rattle.script_text.proofs.Peel.{same_id}
 use Rattle.script_text.proofs.Follow.{no_minion, no_role, no_parent, no_turn, no_after, goes_on, whole, not_whole, last_lines}
@@ -49,28 +49,28 @@ len_ids : (d : Draft) → IsDraft d → length d.ids.keys ≡ length (d.top ∷ 
 len_ids d h = ap (λ l. length l) h.first
 
 pub next_found : (d : Draft) (line id : List ℕ) → IsDraft d → Decodes IsName id_line line (Some id) → list_any (bytes_eq id) d.ids.keys ≡ false → length d.ids.keys ≤ 4096
-    → Decodes (λ x. HasIds d.top (minions_of d ++ x ∷ [])) id_line line (Some id)
+    → Decodes (MayFollow d) id_line line (Some id)
 next_found d line id h n new few = (
   one_more d.top (minions_of d) id h.read.ids n.0 (ap (λ l. list_any (bytes_eq id) l) (sym h.first) ∙ new) (omega (arith, len_ids d h)),
   n.1,
   λ y v e. n.2 y (name_of_last d.top (minions_of d) y v) e,
 )
 
-pub next_full : (d : Draft) (x : List ℕ) → IsDraft d → 4096 < length d.ids.keys → HasIds d.top (minions_of d ++ x ∷ []) → ⊥
+pub next_full : (d : Draft) (x : List ℕ) → IsDraft d → 4096 < length d.ids.keys → MayFollow d x → ⊥
 next_full d x h many has = let room = room_for d.top (minions_of d) x has in absurd (omega (arith, len_ids d h))
 
 pub next_old : (d : Draft) (line id x : List ℕ) → IsDraft d → Decodes IsName id_line line (Some id) → list_any (bytes_eq id) d.ids.keys ≡ true
-    → HasIds d.top (minions_of d ++ x ∷ []) → id_line x ≡ line → ⊥
+    → MayFollow d x → id_line x ≡ line → ⊥
 next_old d line id x h n old has e =
     let same : x ≡ id = same_id x id (e ∙ sym n.1) in
     both_ways (list_any (bytes_eq x) d.ids.keys) (ap (λ l. list_any (bytes_eq x) l) h.first ∙ new_id d.top (minions_of d) x has)
     (ap (λ y. list_any (bytes_eq y) d.ids.keys) same ∙ old)
 
-pub next_none : (d : Draft) (line x : List ℕ) → Decodes IsName id_line line None → HasIds d.top (minions_of d ++ x ∷ []) → id_line x ≡ line → ⊥
+pub next_none : (d : Draft) (line x : List ℕ) → Decodes IsName id_line line None → MayFollow d x → id_line x ≡ line → ⊥
 next_none d line x none has e = none x (name_of_last d.top (minions_of d) x has) e
 
 pub minion_stops : (d : Draft) (line : List ℕ) → d.stage ≡ stage.Minion → (line ≡ codes "%schedule" → ⊥)
-    → Decodes (λ x. HasIds d.top (minions_of d ++ x ∷ [])) id_line line None → GoesOn (draft_lines d ++ line ∷ []) → ⊥
+    → Decodes (MayFollow d) id_line line None → GoesOn (draft_lines d ++ line ∷ []) → ⊥
 minion_stops d line e not none = stops d stage.Minion line e (no_minion d.top (minions_of d) line not none)
 
 pub role_taken : (d : Draft) (line : List ℕ) → IsDraft d → d.stage ≡ stage.Role → line ≡ codes "  role: minion" → IsLineTaken d line (record d { stage = stage.Parent }) true

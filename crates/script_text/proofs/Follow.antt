@@ -8,7 +8,7 @@ use Rattle.script_text.specs.declared.script.Script.{Script}
 use Rattle.script_text.specs.declared.draft.Stage.{Stage}
 use Rattle.script_text.specs.declared.draft.Stage.TheVariants as stage
 use Rattle.script_text.specs.Script.{HasIds, MayStand, IsScript, turn_line, id_line, minion_lines, top_lines, fleet_lines, schedule_lines, script_lines, fleet_of}
-use Rattle.script_text.specs.Refused.{GoesOn}
+use Rattle.script_text.specs.Refusals.{GoesOn}
 use Rattle.script_text.specs.Draft.{IsOnly, IsRead, IsScriptOf, lines_until}
 use Rattle.script_text.proofs.Ids.{front_ids}
 use Rattle.script_text.proofs.Peel.{heads, tails, not_schedule, not_end, peel_top, peel_minions, peel_turns}

@@ -5,7 +5,7 @@ use Rattle.script_text.specs.declared.script.Script.{Script}
 use Rattle.script_text.specs.declared.script.ScriptFault.TheVariants.{NotYet}
 use Rattle.script_text.specs.Lines.{lines_of}
 use Rattle.script_text.specs.Script.{IsScript, script_lines}
-use Rattle.script_text.specs.Refused.{GoesOn, IsRefusedAt}
+use Rattle.script_text.specs.Refusals.{GoesOn, IsRefusedAt}
 use Rattle.script_text.proofs.Peel.{heads}
 use Rattle.script_text.proofs.Words.{lines_few}
 

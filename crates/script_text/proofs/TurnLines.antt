@@ -1,5 +1,5 @@
 -- Turns from the parts of their lines.
-use Rattle.std.proofs.Common.{◌≡◌, ℕ, true, false, List, [], ◌++◌, refl, sym, ap, ap₂, subst, ◌∙◌, arith}
+use Rattle.std.proofs.Common.{◌≡◌, ℕ, true, false, List, ◌++◌, refl, sym, ap, ap₂, subst, ◌∙◌, arith}
 use Rattle.std.specs.Prelude.{codes, Option, None, Some, Result, Ok, Err, IfOk}
 use Rattle.std.proofs.lemmas.Bool.{both_ways}
 use Rattle.std.proofs.lemmas.List.{append_cancel_left, append_cancel_right}
@@ -10,7 +10,7 @@ use Rattle.fleet_turns.specs.declared.turn.Turn.TheVariants.{Publish, Send, Deli
 use Rattle.fleet_config.specs.Fleet.{FleetConfig}
 use Rattle.script_text.specs.Script.{MayStand, IsPattern, turn_line}
 use Rattle.script_text.specs.Fleet.{fleet_by, tree_by}
-use Rattle.script_text.specs.Turns.{ReadsTurn, ReadsSending, target_text, ping, IsPublication, publication_text, IsSending, sending_text, are_neighbours}
+use Rattle.script_text.specs.Turns.{ReadsTurn, ReadsInEachFleet, ReadsSending, target_text, ping, IsPublication, publication_text, IsSending, sending_text, are_neighbours}
 use Rattle.script_text.proofs.Ids.{neighbours_are, are_neighbours_of}
 use Rattle.script_text.proofs.Peel.{heads}
 
@@ -80,7 +80,7 @@ pub of_line : (f : FleetConfig) (line text : List ℕ) (turn : Option Turn) → 
 of_line f line text turn e h = subst (λ (l : List ℕ). ReadsTurn f l turn) (sym e) h
 
 pub of_any : {E : Type 0} (f : FleetConfig) (line text : List ℕ) (r : Result (Option Turn) E) → line ≡ text
-    → IfOk r (λ turn. (any : FleetConfig) → ReadsTurn any text turn) → IfOk r (ReadsTurn f line)
+    → IfOk r (ReadsInEachFleet text) → IfOk r (ReadsTurn f line)
 of_any f line text (Ok turn) e h = of_line f line text turn e (h f)
 of_any f line text (Err fault) e h = tt
 

@@ -8,7 +8,7 @@ use Rattle.script_text.specs.declared.draft.Draft.{Draft}
 use Rattle.script_text.specs.declared.draft.Stage.{Stage}
 use Rattle.script_text.specs.declared.draft.Stage.TheVariants as stage
 use Rattle.script_text.specs.Script.{HasIds, MayStand, IsScript, turn_line, id_line, fleet_lines, schedule_lines, script_lines}
-use Rattle.script_text.specs.Refused.{GoesOn}
+use Rattle.script_text.specs.Refusals.{GoesOn}
 
 -- No public contract cites it.
 -- the lines that were read up to a stage, where `last` is the id of the minion that was begun last
@@ -22,6 +22,10 @@ lines_until top minions last turns stage.End = fleet_lines top minions ++ schedu
 -- No public contract cites it. The ids after that of the top
 abbrev pub minions_of : Draft → List (List ℕ)
 minions_of d = drop 1 d.ids.keys
+
+-- No public contract cites it. A minion with this id may be the next one
+abbrev pub MayFollow : Draft → List ℕ → Type 0
+MayFollow d id = HasIds d.top (minions_of d ++ id ∷ [])
 
 -- No public contract cites it. The lines that were read
 abbrev pub draft_lines : Draft → List (List ℕ)

@@ -1,6 +1,7 @@
 pub mod Lines
 pub mod Script
-pub mod Refused
+pub mod Refusals
+pub mod Top
 pub mod Draft
 pub mod Fleet
 pub mod Turns

@@ -12,6 +12,10 @@ use Rattle.script_text.specs.Script.{MayStand, IsPattern, turn_line}
 abbrev pub ReadsTurn : FleetConfig → List ℕ → Option Turn → Type 0
 ReadsTurn f line turn = Decodes (MayStand f) (turn_line f) line turn
 
+-- In each fleet this is the one turn that is written so, or there is none. No public contract cites it.
+abbrev pub ReadsInEachFleet : List ℕ → Option Turn → Type 0
+ReadsInEachFleet line turn = (f : FleetConfig) → ReadsTurn f line turn
+
 -- A publication of `test.ping` without arguments for a glob of ids. No public contract cites it.
 abbrev pub ping : ℕ → List ℕ → Turn
 ping moment tgt = Publish moment Glob tgt (codes "test.ping") []

@@ -1,7 +1,7 @@
 //! What has been read of a script.
-ghost use Rattle.std.specs.Prelude.{◌≡◌, ◌∷◌, ◌++◌, [], codes, IsTrue, ◌↔◌, ◌<◌, length, drop, IfOk};
+ghost use Rattle.std.specs.Prelude.{◌≡◌, ◌++◌, codes, IsTrue, ◌↔◌, ◌<◌, length, drop, IfOk};
 ghost use Rattle.salt_value.specs.Reading.{Decodes};
-ghost use Rattle.script_text.specs.Script.{IsName, HasIds, id_line, top_lines};
+ghost use Rattle.script_text.specs.Script.{IsName, id_line, top_lines};
 
 use crate::lines::strip_front;
 use crate::names::read_id_line;
@@ -42,7 +42,7 @@ pub struct Draft {
 }
 
 impl Draft {
-    ghost use Rattle.script_text.specs.Draft.{IsDraft, draft_lines, minions_of, IsLineTaken, IsScriptOf};
+    ghost use Rattle.script_text.specs.Draft.{IsDraft, draft_lines, MayFollow, IsLineTaken, IsScriptOf};
 
     /// The lines of the top alone.
     pub fn new(alloc: Global, top: MinionId) -> Result<Draft, AllocError>
@@ -77,7 +77,7 @@ impl Draft {
     // The id of one more minion.
     fn next_id(&self, line: &[u8]) -> Option<MinionId>
         requires { IsDraft self.now }
-        ensures { Decodes (λ id. HasIds self.now.top (minions_of self.now ++ id ∷ [])) id_line line.now result }
+        ensures { Decodes (MayFollow self.now) id_line line.now result }
     {
         let Some(id) = read_id_line(line) else {
             return None;

@@ -1,15 +1,15 @@
 //! Parts of a text.
-ghost use Rattle.std.specs.Prelude.{◌≡◌, ◌≢◌, ◌∷◌, ◌++◌, ◌<◌, ◌^◌, ◌==◌, [], ℕ, List, IfSome, IfNone, MatchOption, decimal, length, position};
+ghost use Rattle.std.specs.Prelude.{◌≡◌, ◌∷◌, ◌++◌, ◌<◌, ◌^◌, ◌==◌, [], IfSome, IfNone, MatchOption, decimal, length, position};
 ghost use Rattle.salt_value.specs.Reading.{Decodes};
 ghost use Rattle.script_text.specs.Lines as spec;
-ghost use Rattle.script_text.specs.Lines.{lines_of, Lacks};
+ghost use Rattle.script_text.specs.Lines.{lines_of, Lacks, IsCutAt, LacksHead, LacksTail};
 
 use std::str;
 
 /// What stands before the first byte that is this mark, and after it.
 #[tactic(auto, using(crate::proofs::Words::front_of, crate::proofs::Words::cut_at, crate::proofs::Words::whole_lacks))]
 pub fn cut(text: &[u8], mark: u8) -> Option<(&[u8], &[u8])>
-    ensures some { IfSome result (λ r. (text.now ≡ r.0.now ++ mark ∷ r.1.now) × Lacks mark r.0.now) }
+    ensures some { IfSome result (λ r. IsCutAt mark text.now r.0.now r.1.now) }
     ensures none { IfNone result (Lacks mark text.now) }
 {
     match place(text, mark) {
@@ -45,16 +45,16 @@ pub fn cut_line(text: &[u8]) -> Option<(&[u8], &[u8])>
     }
 }
 
-/// What stands after a front.
-pub fn strip_front<'a>(text: &'a [u8], front: &[u8]) -> Option<&'a [u8]>
-    ensures { MatchOption result ((rest : List ℕ) → text.now ≢ front.now ++ rest) (λ x. text.now ≡ front.now ++ x.now) }
+/// What stands after a head.
+pub fn strip_front<'a>(text: &'a [u8], head: &[u8]) -> Option<&'a [u8]>
+    ensures { MatchOption result (LacksHead head.now text.now) (λ x. text.now ≡ head.now ++ x.now) }
 {
-    text.strip_prefix(front)
+    text.strip_prefix(head)
 }
 
 /// What stands before a tail.
 pub fn strip_back<'a>(text: &'a [u8], tail: &[u8]) -> Option<&'a [u8]>
-    ensures { MatchOption result ((rest : List ℕ) → text.now ≢ rest ++ tail.now) (λ x. text.now ≡ x.now ++ tail.now) }
+    ensures { MatchOption result (LacksTail tail.now text.now) (λ x. text.now ≡ x.now ++ tail.now) }
 {
     text.strip_suffix(tail)
 }

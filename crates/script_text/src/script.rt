@@ -1,7 +1,7 @@
 //! The reader of a script.
 ghost use Rattle.std.specs.Prelude.{◌≡◌, ◌≤◌, ℕ, length, IfOk, IsErrOf};
 ghost use Rattle.script_text.specs.Script.{Spells, most_script_bytes};
-ghost use Rattle.script_text.specs.Refused.{IsRefusedAt};
+ghost use Rattle.script_text.specs.Refusals.{IsRefusedAt};
 
 use crate::draft::Draft;
 use crate::lines::cut_line;
@@ -49,9 +49,9 @@ impl From<AllocError> for ScriptFault {
 /// spells none.
 pub fn read_script(alloc: Global, text: &[u8]) -> Result<Script, ScriptFault>
     requires { length text.now ≤ most_script_bytes }
-    ensures ok { IfOk result (λ script. Spells script text.now) }
-    ensures unique { IfOk result (λ script. (other : Script) → Spells other text.now → other ≡ script) }
-    ensures not_yet { (line : ℕ) → IsErrOf result (ScriptFault.NotYet line) → IsRefusedAt line text.now }
+    ensures ok { IfOk result (λ s. Spells s text.now) }
+    ensures unique { IfOk result (λ s. (other : Script) → Spells other text.now → other ≡ s) }
+    ensures not_yet { (n : ℕ) → IsErrOf result (ScriptFault.NotYet n) → IsRefusedAt n text.now }
 {
     let (top, mut rest) = match read_top(text) {
         Ok(read) => read,

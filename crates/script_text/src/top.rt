@@ -1,8 +1,8 @@
 //! The lines of the top.
-ghost use Rattle.std.specs.Prelude.{◌≡◌, ◌∷◌, ◌++◌, ℕ, List, IfOk, IfErr, IfSome, IfNone};
-ghost use Rattle.script_text.specs.Lines.{lines_of};
-ghost use Rattle.script_text.specs.Script.{IsName, id_line, top_lines};
-ghost use Rattle.script_text.specs.Refused.{IsRefusedAt};
+ghost use Rattle.std.specs.Prelude.{◌≡◌, ◌∷◌, IfOk, IfErr, IfSome, IfNone};
+ghost use Rattle.script_text.specs.Lines.{lines_of, LacksFirst};
+ghost use Rattle.script_text.specs.Refusals.{IsRefusedAt};
+ghost use Rattle.script_text.specs.Top.{HasFirstId, LacksFirstId, HasTop};
 
 use crate::lines::cut_line;
 use crate::names::read_id_line;
@@ -11,7 +11,7 @@ use salt_value::MinionId;
 // What comes after this line.
 fn after<'a>(text: &'a [u8], word: &[u8]) -> Option<&'a [u8]>
     ensures some { IfSome result (λ rest. lines_of text.now ≡ word.now ∷ lines_of rest.now) }
-    ensures none { IfNone result ((more : List (List ℕ)) → lines_of text.now ≡ word.now ∷ more → ⊥) }
+    ensures none { IfNone result (LacksFirst word.now (lines_of text.now)) }
 {
     match cut_line(text) {
         Some((line, rest)) => { if line == word { Some(rest) } else { None } }
@@ -21,8 +21,8 @@ fn after<'a>(text: &'a [u8], word: &[u8]) -> Option<&'a [u8]>
 
 // The id of the first line, and what comes after it.
 fn after_id(text: &[u8]) -> Option<(MinionId, &[u8])>
-    ensures some { IfSome result (λ r. IsName r.0 × (lines_of text.now ≡ id_line r.0 ∷ lines_of r.1.now)) }
-    ensures none { IfNone result ((id : List ℕ) (more : List (List ℕ)) → IsName id → lines_of text.now ≡ id_line id ∷ more → ⊥) }
+    ensures some { IfSome result (λ r. HasFirstId text.now r.0 r.1.now) }
+    ensures none { IfNone result (LacksFirstId text.now) }
 {
     match cut_line(text) {
         Some((line, rest)) => match read_id_line(line) {
@@ -35,7 +35,7 @@ fn after_id(text: &[u8]) -> Option<(MinionId, &[u8])>
 
 /// The id of the top, and what comes after its four lines; or the line at which the text is refused.
 pub fn read_top(text: &[u8]) -> Result<(MinionId, &[u8]), u32>
-    ensures ok { IfOk result (λ r. IsName r.0 × (lines_of text.now ≡ top_lines r.0 ++ lines_of r.1.now)) }
+    ensures ok { IfOk result (λ r. HasTop text.now r.0 r.1.now) }
     ensures err { IfErr result (λ n. IsRefusedAt n text.now) }
 {
     let Some(nodes) = after(text, b"%fleet") else {

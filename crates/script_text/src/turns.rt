@@ -2,12 +2,11 @@
 ghost use Rattle.std.specs.Prelude.{◌≡◌, ◌++◌, ◌↔◌, codes, IsTrue, IfOk, IfSome, IfNone};
 ghost use Rattle.std.specs.List.{list_all};
 ghost use Rattle.salt_value.specs.Reading.{Decodes};
-ghost use Rattle.fleet_config.specs.Fleet.{FleetConfig};
 ghost use Rattle.script_text.specs.Script as spec;
 ghost use Rattle.script_text.specs.Script.{IsPattern};
 ghost use Rattle.script_text.specs.Fleet.{fleet_by, tree_by, AreIds};
 ghost use Rattle.script_text.specs.Turns as spec_turns;
-ghost use Rattle.script_text.specs.Turns.{ReadsTurn, target_text, IsPublication, publication_text, ReadsNode, HasNode, HasNoNode, ReadsSending};
+ghost use Rattle.script_text.specs.Turns.{ReadsTurn, ReadsInEachFleet, target_text, IsPublication, publication_text, ReadsNode, HasNode, HasNoNode, ReadsSending};
 
 use crate::lines::{cut, read_number, strip_back, strip_front};
 use exec_functions::{Function, Query};
@@ -45,7 +44,7 @@ pub fn read_turn(
 
 // The turn of a line of which this stands after `publish `.
 fn read_publish(alloc: Global, rest: &[u8]) -> Result<Option<Turn>, AllocError>
-    ensures { IfOk result (λ turn. (f : FleetConfig) → ReadsTurn f (codes "publish " ++ rest.now) turn) }
+    ensures { IfOk result (ReadsInEachFleet (codes "publish " ++ rest.now)) }
 {
     match read_publication(alloc, rest)? {
         Some((moment, tgt)) => Ok(Some(ping(alloc, moment, tgt)?)),
@@ -197,7 +196,7 @@ fn read_send(ids: &IndexSet<MinionId>, rest: &[u8]) -> Option<Turn>
 
 // The turn of a line of which this stands after `deliver `.
 fn read_deliver(rest: &[u8]) -> Option<Turn>
-    ensures { (f : FleetConfig) → ReadsTurn f (codes "deliver " ++ rest.now) result }
+    ensures { ReadsInEachFleet (codes "deliver " ++ rest.now) result }
 {
     match read_number(rest) {
         Some(packet) => Some(Turn::Deliver { packet }),
@@ -207,7 +206,7 @@ fn read_deliver(rest: &[u8]) -> Option<Turn>
 
 // The turn of a line of which this stands after `report `.
 fn read_report(rest: &[u8]) -> Option<Turn>
-    ensures { (f : FleetConfig) → ReadsTurn f (codes "report " ++ rest.now) result }
+    ensures { ReadsInEachFleet (codes "report " ++ rest.now) result }
 {
     match Jid::read(rest) {
         Some(jid) => Some(Turn::Report { jid }),

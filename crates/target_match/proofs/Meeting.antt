@@ -5,7 +5,7 @@ use Rattle.std.specs.List.{list_any}
 use Rattle.std.specs.Fmt.{signed_decimal}
 use Rattle.std.proofs.lemmas.List.{drop_more}
 use denote.Param.Weighed.{most}
-use Rattle.salt_glob.specs.Lowered.{glob_caseless}
+use Rattle.salt_glob.specs.LowerCase.{glob_caseless}
 use Rattle.salt_value.specs.Keys.{under}
 use Rattle.salt_value.specs.Scalar.{flag_text}
 use Rattle.salt_value.specs.declared.value.Value.{Value, Null, Flag, Int, Str, List as ListOf, Map, size-Value, fold-roll-Value}

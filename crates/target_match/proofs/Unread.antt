@@ -13,7 +13,7 @@ use Rattle.target_match.specs.Building.{IsFaultOf}
 use Rattle.target_match.specs.declared.fault.BuildFault.{BuildFault}
 use Rattle.target_match.specs.declared.fault.BuildFault.TheVariants.{NoMemory, BadPattern, TooBig}
 use Rattle.target_match.proofs.Leaves.{bad_whole, big_whole}
-use Rattle.target_match.specs.Unread.{is_within_nesting, is_readable, is_readable_leaf, first_unread, unread_leaf, IsBuildFault}
+use Rattle.target_match.specs.Readability.{is_within_nesting, is_readable, is_readable_leaf, first_unread, unread_leaf, IsBuildFault}
 
 -- ---- places of the first that passes
 

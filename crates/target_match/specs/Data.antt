@@ -2,7 +2,7 @@
 use Rattle.std.specs.Prelude.{ℕ, Bool, false, List, [], ◌∷◌, Option, None, Some, codes, map}
 use Rattle.std.specs.List.{list_any}
 use Rattle.std.specs.Fmt.{signed_decimal}
-use Rattle.salt_glob.specs.Lowered.{glob_caseless}
+use Rattle.salt_glob.specs.LowerCase.{glob_caseless}
 use Rattle.salt_value.specs.Keys.{under}
 use Rattle.salt_value.specs.Scalar.{flag_text}
 use Rattle.salt_value.specs.declared.value.Value.{Value, fold-Value}

@@ -3,7 +3,7 @@ pub mod Paths
 pub mod Data
 pub mod Leaves
 pub mod Holds
-pub mod Unread
+pub mod Readability
 pub mod Searches
 pub mod ById
 pub mod Reach

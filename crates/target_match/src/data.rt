@@ -1,7 +1,7 @@
 //! Globs of paths into grains and pillar.
 ghost use Rattle.std.specs.Prelude.{◌≡◌, IfOk, map, bytes_eq};
 ghost use Rattle.std.specs.List.{list_any};
-ghost use Rattle.salt_glob.specs.Lowered.{glob_caseless};
+ghost use Rattle.salt_glob.specs.LowerCase.{glob_caseless};
 ghost use Rattle.salt_value.specs.Scalar.{flag_text};
 ghost use Rattle.target_match.specs.Paths.{parts};
 ghost use Rattle.target_match.specs.Data.{meets, map_meets, child_meets, told_pairs};

@@ -1,7 +1,7 @@
 //! A target that is ready for matching.
 ghost use Rattle.std.specs.Prelude.{◌≡◌, None, [], IfOk, IfErr, IsOk, IsTrue};
 ghost use Rattle.target_match.specs.Holds.{Data, holds, is_by_id, decision_by_id, patterns, AreReadable};
-ghost use Rattle.target_match.specs.Unread.{unread_leaf, IsBuildFault};
+ghost use Rattle.target_match.specs.Readability.{unread_leaf, IsBuildFault};
 ghost use Rattle.target_match.specs.Searches.{Keeps, AddsAsked};
 
 use crate::BuildFault;

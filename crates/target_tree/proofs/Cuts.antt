@@ -10,7 +10,7 @@ use Rattle.target_tree.specs.declared.run.Outer.{Outer}
 use Rattle.target_tree.specs.declared.fault.TargetFault.TheVariants.{Empty, TooLong}
 use Rattle.target_tree.specs.Words.{words_of, tokens_of, token, is_not_empty}
 use Rattle.target_tree.specs.Nodegroups.{is_among}
-use Rattle.target_tree.specs.Going.{names_of, within}
+use Rattle.target_tree.specs.WaitingTexts.{names_of, within}
 
 abbrev pub space : ℕ → Bool
 space b = nat_eq b 32

@@ -15,7 +15,7 @@ use Rattle.target_tree.specs.Reading.{Counts, text_end, group_word, IsFaultAsRea
 use Rattle.target_tree.specs.Machine.{joined_or, GivesTree, counts_of, state_of, machine_all, machine_group, machine_begun, machine_end, machine_target, tree_of, machine_tree}
 use Rattle.target_tree.specs.Targets.{IsTarget, IsReadUnlessLimit, IsReadUnlessRefused, IsAsRead, reading, target_words, sole_word}
 use Rattle.target_tree.specs.declared.kind.Kind.TheVariants.{Compound}
-use Rattle.target_tree.specs.Going.{Goes, going, within}
+use Rattle.target_tree.specs.WaitingTexts.{Goes, going, within}
 use Rattle.target_tree.specs.declared.run.Outer.{Outer}
 use Rattle.target_tree.specs.declared.reader.Reader.{Reader as Machine}
 use Rattle.target_tree.specs.Words.{tokens_of}

@@ -6,7 +6,7 @@ use Rattle.std.proofs.lemmas.Bool.Decides.{nat_tests}
 use Rattle.target_tree.specs.declared.target.Target.TheVariants.{IdGlob}
 use Rattle.target_tree.specs.declared.token.Token.TheVariants.{Leaf, NoLeaf}
 use Rattle.target_tree.specs.Words.{is_lettered, is_kind_letter, is_not_empty, is_paren, letter_leaf, operand_token}
-use Rattle.target_tree.specs.Parted.{IsParted}
+use Rattle.target_tree.specs.WordParts.{IsParted}
 
 and-false : (x y : Bool) → y ≡ false → (x && y) ≡ false
 and-false true y e = e

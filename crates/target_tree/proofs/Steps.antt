@@ -18,7 +18,7 @@ use Rattle.target_tree.specs.Nodegroups.{text_named, is_among}
 use Rattle.salt_value.specs.Readers.{◌>>=◌}
 use Rattle.target_tree.specs.Reading.{IsFaultAsRead}
 use Rattle.target_tree.specs.Machine.{Step, machine_operator, machine_closing, machine_operand, machine_by, machine_word, machine_all, machine_end, machine_end_by, machine_closed, machine_resumed, machine_group, machine_found, machine_text, machine_begun, no_group}
-use Rattle.target_tree.specs.Going.{Goes, going, names_of, within, entered_by, opened_by, group_text}
+use Rattle.target_tree.specs.WaitingTexts.{Goes, going, names_of, within, entered_by, opened_by, group_text}
 
 abbrev pub IsPlain : Token → Type 0
 IsPlain (Nodegroup name) = ⊥

@@ -5,7 +5,7 @@ pub mod Words
 pub mod Grammar
 pub mod Reading
 pub mod Targets
-pub mod Parted
+pub mod WordParts
 pub mod Machine
-pub mod Going
+pub mod WaitingTexts
 pub mod Stacks

@@ -4,7 +4,7 @@ ghost use Rattle.target_tree.specs.Limits.{most_words, most_texts};
 ghost use Rattle.target_tree.specs.Words.{tokens_of, token};
 ghost use Rattle.target_tree.specs.Nodegroups.{is_among};
 ghost use Rattle.target_tree.specs.Machine.{GivesTree};
-ghost use Rattle.target_tree.specs.Going.{GivesBy, EntersText, OpensText, IsInner, ReadsWord, ReadsGroup, rest_tree, within, names_of};
+ghost use Rattle.target_tree.specs.WaitingTexts.{GivesBy, EntersText, OpensText, IsInner, ReadsWord, ReadsGroup, rest_tree, within, names_of};
 
 use crate::limits::{MOST_TEXT_BYTES, MOST_WORDS};
 use crate::reader::{Ended, Reader};

@@ -2,7 +2,7 @@
 ghost use Rattle.std.specs.Prelude.{◌≡◌, IfOk};
 ghost use Rattle.target_tree.specs.Words.{token, letter_leaf, operand_token, is_paren, is_kind_letter};
 ghost use Rattle.std.specs.List.{list_any};
-ghost use Rattle.target_tree.specs.Parted.{PartsWord};
+ghost use Rattle.target_tree.specs.WordParts.{PartsWord};
 
 use crate::Target;
 use crate::items::id_list_of;

@@ -276,47 +276,54 @@ static BIG: [Play; 3] = [
     Play::Report("20231114221320000000"),
 ];
 
-fn ends(
+static BIG_TEXT: &str = "publish 20231114221320000000\n";
+
+// A play in this world ends so, and prints this.
+fn play(
     rt: &impl Abort,
     alloc: Global,
-    world: &mut World,
+    mut world: World,
     plays: &[Play],
     wanted: Result<(), StepFault>,
     text: &str,
 ) {
     let mut sink = MemSink::new(alloc, Vec::new(alloc));
-    let ended = perform_all(rt, alloc, world, &mut sink, plays);
+    let ended = perform_all(rt, alloc, &mut world, &mut sink, plays);
     printed(rt, &sink, ended, wanted, text);
 }
 
 #[test]
 fn a_job_is_run_where_its_target_holds(rt: HostRuntime) {
-    let mut world = grouped(&rt, rt.alloc(), &NODES);
-    ends(&rt, rt.alloc(), &mut world, &KINDS, Ok(()), KINDS_TEXT);
+    let alloc = rt.alloc();
+    let world = grouped(&rt, alloc, &NODES);
+    play(&rt, alloc, world, &KINDS, Ok(()), KINDS_TEXT);
 }
 
 #[test]
 fn a_target_is_asked_of_what_the_jobs_before_left(rt: HostRuntime) {
-    let mut world = grouped(&rt, rt.alloc(), &SITE);
-    ends(&rt, rt.alloc(), &mut world, &SETS, Ok(()), SETS_TEXT);
+    let alloc = rt.alloc();
+    let world = grouped(&rt, alloc, &SITE);
+    play(&rt, alloc, world, &SETS, Ok(()), SETS_TEXT);
 }
 
 #[test]
 fn each_refusal_is_told_by_its_first_cause(rt: HostRuntime) {
-    let mut world = narrow(&rt, rt.alloc(), &NODES);
-    ends(&rt, rt.alloc(), &mut world, &REFUSED, Ok(()), REFUSED_TEXT);
+    let alloc = rt.alloc();
+    let world = narrow(&rt, alloc, &NODES);
+    play(&rt, alloc, world, &REFUSED, Ok(()), REFUSED_TEXT);
 }
 
 #[test]
 fn no_job_is_published_after_the_greatest_jid(rt: HostRuntime) {
-    let mut world = grouped(&rt, rt.alloc(), &NODES);
-    ends(&rt, rt.alloc(), &mut world, &LAST, Ok(()), LAST_TEXT);
+    let alloc = rt.alloc();
+    let world = grouped(&rt, alloc, &NODES);
+    play(&rt, alloc, world, &LAST, Ok(()), LAST_TEXT);
 }
 
 #[test]
 fn a_pattern_that_is_too_big_ends_the_play(rt: HostRuntime) {
-    let mut world = grouped(&rt, rt.alloc(), &NODES);
+    let alloc = rt.alloc();
+    let world = grouped(&rt, alloc, &NODES);
     let fault = Err(StepFault::TooBig { leaf: 1 });
-    let text = "publish 20231114221320000000\n";
-    ends(&rt, rt.alloc(), &mut world, &BIG, fault, text);
+    play(&rt, alloc, world, &BIG, fault, BIG_TEXT);
 }

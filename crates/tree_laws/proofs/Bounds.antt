@@ -15,7 +15,7 @@ use Rattle.salt_wire.specs.declared.deed.Deed.TheVariants.{Publish, Up}
 use Rattle.node_core.specs.declared.faults.Stray.{Stray}
 use Rattle.node_core.specs.declared.faults.Stray.TheVariants.{NotNeighbour, WrongWay, BadPattern}
 use Rattle.node_core.specs.Records.{jobs, log}
-use Rattle.target_match.specs.Unread.{unread_leaf}
+use Rattle.target_match.specs.Readability.{unread_leaf}
 use Rattle.node_core.specs.Publications.{order}
 use Rattle.node_core.specs.Node.{NodeState, MessageResult, with_record, with_next_record, after_pub, after_message, is_neighbour, may_take, runs_next, stray_of, unless_stray, message_result}
 use Rattle.fleet_turns.specs.declared.turn.Turn.{Turn}

@@ -22,7 +22,7 @@ use Rattle.node_core.specs.Records.{jobs, jobs_held, count_in, log}
 use Rattle.node_core.specs.Counts.{raised_counts}
 use Rattle.node_core.specs.Node.{NodeState, Answer, with_record, taken_in, after_pub, after_up, after_message, is_neighbour, may_take, is_below, is_here, is_next, runs_next, may_record, names_held, stray_of, unless_stray, message_result}
 use Rattle.exec_functions.specs.Limits.{no_holdings}
-use Rattle.target_match.specs.Unread.{unread_leaf}
+use Rattle.target_match.specs.Readability.{unread_leaf}
 use Rattle.fleet_config.specs.Causes.{first_cause}
 use Rattle.node_core.specs.Node.Answer.{IsStray, Silent, Reply}
 use Rattle.tree_world.specs.Packets.{Packet}

@@ -6,7 +6,7 @@ use Rattle.std.proofs.lemmas.Bool.{lt-ltb, ltb-true}
 use Rattle.salt_value.specs.Readers.{◌>>=◌}
 use Rattle.salt_value.specs.Jid.{next_jid, greatest_jid}
 use Rattle.target_tree.specs.declared.target.Target.{Target}
-use Rattle.target_match.specs.Unread.{unread_leaf}
+use Rattle.target_match.specs.Readability.{unread_leaf}
 use Rattle.salt_wire.specs.declared.message.Job.{Job}
 use Rattle.salt_wire.specs.declared.deed.Deed.TheVariants.{Publish}
 use Rattle.fleet_config.specs.Causes.{first_cause}

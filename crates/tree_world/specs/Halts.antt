@@ -1,5 +1,5 @@
 -- Why a turn is not finished: want of memory, a sink that failed, or a pattern that is too big to match with.
-use Rattle.std.specs.Prelude.{ℕ, ◌≡◌, ⊤, List, Some, slice_get}
+use Rattle.std.specs.Prelude.{ℕ, ◌≡◌, ⊤, List, Some, slice_get, Result, IsErrOf}
 use Rattle.fleet_config.specs.Fleet.{FleetConfig}
 use Rattle.node_core.specs.Node.{NodeState, RunsBigPattern}
 use Rattle.node_core.specs.Publications.{order, IsTargetTooBig}
@@ -10,8 +10,9 @@ use Rattle.tree_world.specs.declared.world.Halt.{Halt}
 use Rattle.tree_world.specs.declared.world.Halt.TheVariants as halt
 use Rattle.tree_world.specs.declared.world.StepFault.{StepFault}
 use Rattle.tree_world.specs.declared.world.StepFault.TheVariants as step
+use Rattle.salt_outside.specs.Causes.{CountsFaults}
 use Rattle.tree_world.specs.Packets.{Packet}
-use Rattle.tree_world.specs.Network.{Network, node_at}
+use Rattle.tree_world.specs.Network.{Network, System, node_at}
 
 -- A turn publishes for a target whose pattern of this leaf is too big, or delivers a job with such a target that its receiver runs.
 abbrev pub MeetsBigPattern : FleetConfig → Turn → Network → ℕ → Type 0
@@ -22,10 +23,14 @@ MeetsBigPattern f (Deliver i) w leaf =
 MeetsBigPattern f (Report jid) w leaf = ⊥
 MeetsBigPattern f (t.Packet i) w leaf = ⊥
 
--- a turn stops before its text is written: a pattern is too big, or memory ran out. No public contract cites it.
+-- A turn stops before its text is written: a pattern is too big, or memory ran out. No public contract cites it.
 abbrev pub IsHalt : FleetConfig → Turn → Network → Halt → Type 0
 IsHalt f turn w halt.NoMemory = ⊤
 IsHalt f turn w (halt.TooBig leaf) = MeetsBigPattern f turn w leaf
+
+-- the same of a fleet with its network. No public contract cites it.
+abbrev pub Halts : Turn → System → Halt → Type 0
+Halts turn before stop = IsHalt before.fleet turn before.network stop
 
 -- The receiver of a packet runs a job with a pattern that is too big, or memory ran out. No public contract cites it.
 abbrev pub IsReceiptHalt : List NodeState → Packet → Halt → Type 0
@@ -48,3 +53,7 @@ abbrev pub NeverTooBig : StepFault → Type 0
 NeverTooBig step.NoMemory = ⊤
 NeverTooBig (step.TooBig leaf) = ⊥
 NeverTooBig step.WriteFault = ⊤
+
+-- a sink counts a fault exactly where the answer is that the text could not be written
+abbrev pub CountsWriteFaults : {A : Type 0} → Result A StepFault → ℕ → ℕ → Type 0
+CountsWriteFaults result before now = CountsFaults (IsErrOf result step.WriteFault) before now

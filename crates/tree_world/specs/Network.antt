@@ -1,5 +1,5 @@
 -- The network machine: the nodes of a fleet, and the list of all packets ever sent. Each turn is one step.
-use Rattle.std.specs.Prelude.{ℕ, min, false, List, [], ◌∷◌, ◌++◌, length, map, take, slice_get, slice_set, Option, None, Some, Result, Ok, Err, nat_lt, if◌then◌else◌}
+use Rattle.std.specs.Prelude.{ℕ, ◌≡◌, min, false, List, [], ◌∷◌, ◌++◌, length, map, take, slice_get, slice_set, Option, None, Some, Result, Ok, Err, nat_lt, if◌then◌else◌}
 use Rattle.std.specs.List.{slice_index_or}
 use Rattle.fleet_config.specs.Fleet.{FleetConfig}
 use Rattle.salt_wire.specs.declared.message.Job.{Job}
@@ -73,7 +73,7 @@ with_reply p (IsStray cause) packets = packets
 with_reply p Silent packets = packets
 with_reply p (Reply message) packets = packets ++ packet p.to p.from message ∷ []
 
--- No public contract cites it. The packets, with a reply, if there is one
+-- The packets, with a reply, if there is one. No public contract cites it.
 abbrev pub with_reply_if_any : Packet → Option Message → List Packet → List Packet
 with_reply_if_any p None packets = packets
 with_reply_if_any p (Some message) packets = packets ++ packet p.to p.from message ∷ []
@@ -100,6 +100,10 @@ after f (Send from to count) w = with_packets w (sent_packets f from to count w)
 after f (Deliver i) w = after_delivery f w (slice_get w.packets i)
 after f (Report jid) w = w
 after f (t.Packet i) w = w
+
+-- the network follows from a fleet and its network by a turn
+abbrev pub Follows : Turn → System → Network → Type 0
+Follows turn before network = network ≡ after before.fleet turn before.network
 
 -- the network after some turns
 abbrev pub after_all : FleetConfig → List Turn → Network → Network

@@ -1,5 +1,5 @@
 -- The printed text, by cases on the turn and the network.
-use Rattle.std.specs.Prelude.{ℕ, ◌==◌, List, [], ◌∷◌, ◌++◌, length, flat_map, position, slice_get, Option, None, Some, option_map, unwrap_or, Result, Ok, Err, codes, decimal}
+use Rattle.std.specs.Prelude.{ℕ, ◌≡◌, ◌==◌, List, [], ◌∷◌, ◌++◌, length, flat_map, position, slice_get, Option, None, Some, option_map, unwrap_or, Result, Ok, Err, codes, decimal}
 use Rattle.hex.specs.Hex.{encode_lower}
 use Rattle.salt_value.specs.Jid.{jid_text}
 use Rattle.value_json.specs.Texts.{json_text}
@@ -16,7 +16,8 @@ use Rattle.node_core.specs.Publications.{order, publication}
 use Rattle.fleet_turns.specs.declared.turn.Turn.{Turn}
 use Rattle.fleet_turns.specs.declared.turn.Turn.TheVariants.{Publish, Send, Deliver, Report}
 use Rattle.fleet_turns.specs.declared.turn.Turn.TheVariants as t
-use Rattle.tree_world.specs.Network.{Network, node_at, top_jobs, after, start}
+use Rattle.tree_world.specs.Network.{Network, System, node_at, top_jobs, after, start}
+use Rattle.salt_outside.specs.Streams.{contents_after, IsPart}
 use Rattle.tree_world.specs.Packets.{Packet}
 use Rattle.tree_world.specs.Report.{report}
 
@@ -101,6 +102,18 @@ printed_text f (Send from to count) w = []
 printed_text f (Deliver i) w = []
 printed_text f (Report jid) w = report_text f w jid (number_of jid (top_jobs w))
 printed_text f (t.Packet i) w = packet_text f i (slice_get w.packets i)
+
+-- what a turn prints on a fleet and its network
+abbrev pub turn_text : Turn → System → List ℕ
+turn_text turn before = printed_text before.fleet turn before.network
+
+-- what is written has the text of a turn more
+abbrev pub Prints : Turn → System → Option (List ℕ) → Option (List ℕ) → Type 0
+Prints turn before old new = new ≡ contents_after old (turn_text turn before)
+
+-- what is written has a front of the text of a turn more
+abbrev pub PrintsPart : Turn → System → Option (List ℕ) → Option (List ℕ) → Type 0
+PrintsPart turn before old new = IsPart old new (turn_text turn before)
 
 -- the text of a run from here on
 abbrev pub text_from : FleetConfig → List Turn → Network → List ℕ

@@ -9,6 +9,9 @@ use salt_wire::{Message, WireFault, decode, encode, messages_read_back};
 use std::alloc::{AllocError, Global};
 use std::marker::Model;
 
+// The room that a body is made with, in bytes: most bodies are shorter, so few grow.
+const BODY_ROOM: usize = 32;
+
 /// A packet: its sender, its receiver, and its body. Contracts see the message that the body spells.
 #[derive(Drop)]
 pub struct Packet {
@@ -93,7 +96,7 @@ fn body_of(alloc: Global, message: &Message) -> Result<Vec<u8>, AllocError>
     ensures message { IfOk result (λ body. packets.message_in body.items ≡ message.now) }
 {
     messages_read_back();
-    let mut body = Vec::new(alloc);
+    let mut body = Vec::with_capacity(alloc, BODY_ROOM)?;
     encode(message, &mut body)?;
     Ok(body)
 }

@@ -1,15 +1,10 @@
 //! The network of a fleet, and its turns.
-ghost use Rattle.std.specs.Prelude.{◌≡◌, ◌<◌, ◌++◌, ◌^◌, List, All, slice_set, length, map, take, true, IfOk, IfErr, IfSome, OnOk, OnErr, IsErrOf, Ok, Err};
-ghost use Rattle.salt_value.specs.declared.value.Value.TheVariants as v;
-ghost use Rattle.salt_value.specs.WellFormed.{ValueFits};
-ghost use Rattle.node_core.specs.Node.{first_node, pending, is_neighbour, IsCounted};
+ghost use Rattle.std.specs.Prelude.{◌≡◌, ◌<◌, ◌^◌, All, length, map, true, IfOk, IfErr, IfSome, OnOk};
+ghost use Rattle.node_core.specs.Node.{first_node, is_neighbour, IsCounted};
 ghost use Rattle.salt_wire.specs.Limits.{Within};
-ghost use Rattle.tree_world.specs.Network.{node_at, reception, with_reply, with_reply_if_any};
-ghost use Rattle.tree_world.specs.Packets.{Packet};
-ghost use Rattle.tree_world.specs.Network as network;
 ghost use Rattle.tree_world.specs.Halts as halts;
-ghost use Rattle.tree_world.specs.Halts.{IsReceiptHalt, NeverTooBig};
-ghost use Rattle.salt_outside.specs.Causes.{CountsFaults};
+ghost use Rattle.tree_world.specs.Halts.{IsReceiptHalt, NeverTooBig, CountsWriteFaults};
+ghost use Rattle.tree_world.specs.Steps.{TakesPacket, IsReplyTo, AddsReply, AddsPackets, first_pending};
 ghost use Rattle.salt_outside.specs.Streams.{contents_after, IsPart};
 
 use crate::packet::Packet;
@@ -112,11 +107,11 @@ fn step_fault(halt: Halt) -> StepFault
 }
 
 impl World {
-    ghost use Rattle.tree_world.specs.Network.{System, system, after, node_at};
+    ghost use Rattle.tree_world.specs.Network.{System, system, Follows};
     ghost use Rattle.fleet_turns.specs.Turns.{IsTurn};
     ghost use Rattle.node_core.specs.Node.{is_neighbour};
-    ghost use Rattle.tree_world.specs.Halts.{IsHalt, IsStepFault};
-    ghost use Rattle.tree_world.specs.Text.{printed_text};
+    ghost use Rattle.tree_world.specs.Halts.{Halts, IsStepFault};
+    ghost use Rattle.tree_world.specs.Text.{turn_text, Prints, PrintsPart};
 
     /// The nodes of a fleet as they start, where it has one: each minion has booted once.
     pub fn of(alloc: Global, fleet: Fleet) -> Result<World, AllocError>
@@ -147,11 +142,11 @@ impl World {
     /// up, and a front of the text was written.
     pub fn step<K: Sink>(&mut self, turn: &Turn, sink: &mut K) -> Result<(), StepFault>
         requires { IsTurn self.old.fleet turn.now }
-        ensures ok { OnOk result (self.new.network ≡ after self.old.fleet turn.now self.old.network) }
+        ensures ok { OnOk result (Follows turn.now self.old self.new.network) }
         ensures fleet { self.new.fleet ≡ self.old.fleet }
-        ensures text { OnOk result (K.held sink.new ≡ contents_after (K.held sink.old) (printed_text self.old.fleet turn.now self.old.network)) }
-        ensures part { IsPart (K.held sink.old) (K.held sink.new) (printed_text self.old.fleet turn.now self.old.network) }
-        ensures faults { CountsFaults (IsErrOf result StepFault.WriteFault) (K.faults sink.old) (K.faults sink.new) }
+        ensures text { OnOk result (Prints turn.now self.old (K.held sink.old) (K.held sink.new)) }
+        ensures part { PrintsPart turn.now self.old (K.held sink.old) (K.held sink.new) }
+        ensures faults { CountsWriteFaults result (K.faults sink.old) (K.faults sink.new) }
         ensures fault { IfErr result (IsStepFault self.old.fleet turn.now self.old.network) }
     {
         match self.turn(turn) {
@@ -163,10 +158,10 @@ impl World {
     // The network goes on by a turn, and answers the text that the turn prints.
     fn turn(&mut self, turn: &Turn) -> Result<Vec<u8>, Halt>
         requires { IsTurn self.old.fleet turn.now }
-        ensures state { OnOk result (self.new.network ≡ after self.old.fleet turn.now self.old.network) }
+        ensures state { OnOk result (Follows turn.now self.old self.new.network) }
         ensures fleet { self.new.fleet ≡ self.old.fleet }
-        ensures text { IfOk result (λ text. text.items ≡ printed_text self.old.fleet turn.now self.old.network) }
-        ensures halt { IfErr result (IsHalt self.old.fleet turn.now self.old.network) }
+        ensures text { IfOk result (λ v. v.items ≡ turn_text turn.now self.old) }
+        ensures halt { IfErr result (Halts turn.now self.old) }
     {
         match turn {
             Turn::Publish {
@@ -198,10 +193,13 @@ impl World {
         fun: &Word,
         args: &[Value],
     ) -> Result<Vec<u8>, Halt>
-        ensures state { OnOk result (self.new.network ≡ after self.old.fleet (Turn.Publish moment kind tgt.now fun.now args.now) self.old.network) }
+        ensures state { OnOk result (Follows
+            (Turn.Publish moment kind tgt.now fun.now args.now) self.old self.new.network) }
         ensures fleet { self.new.fleet ≡ self.old.fleet }
-        ensures text { IfOk result (λ text. text.items ≡ printed_text self.old.fleet (Turn.Publish moment kind tgt.now fun.now args.now) self.old.network) }
-        ensures halt { IfErr result (IsHalt self.old.fleet (Turn.Publish moment kind tgt.now fun.now args.now) self.old.network) }
+        ensures text { IfOk result (λ v. v.items ≡ turn_text
+            (Turn.Publish moment kind tgt.now fun.now args.now) self.old) }
+        ensures halt { IfErr result (Halts
+            (Turn.Publish moment kind tgt.now fun.now args.now) self.old) }
     {
         let Some(top) = self.nodes.first_mut() else {
             unreachable!();
@@ -216,7 +214,7 @@ impl World {
 
     // The lines of a report.
     fn report(&self, jid: Jid) -> Result<Vec<u8>, AllocError>
-        ensures { IfOk result (λ text. text.items ≡ printed_text self.now.fleet (Turn.Report jid) self.now.network) }
+        ensures { IfOk result (λ v. v.items ≡ turn_text (Turn.Report jid) self.now) }
     {
         let Some(top) = self.nodes.first() else {
             unreachable!();
@@ -230,7 +228,7 @@ impl World {
 
     // The line of a packet.
     fn packet(&self, i: u64) -> Result<Vec<u8>, AllocError>
-        ensures { IfOk result (λ text. text.items ≡ printed_text self.now.fleet (Turn.Packet i) self.now.network) }
+        ensures { IfOk result (λ v. v.items ≡ turn_text (Turn.Packet i) self.now) }
     {
         match at(&self.packets, i as usize) {
             Some(packet) => packet_text(self.alloc, &self.fleet, i, packet),
@@ -242,7 +240,7 @@ impl World {
     fn send(&mut self, from: NodeId, to: NodeId, count: u64) -> Result<(), AllocError>
         requires from { from < length self.old.fleet.tree }
         requires neighbour { is_neighbour self.old.fleet.tree from to ≡ true }
-        ensures state { OnOk result (self.new.network ≡ after self.old.fleet (Turn.Send from to count) self.old.network) }
+        ensures state { OnOk result (Follows (Turn.Send from to count) self.old self.new.network) }
         ensures fleet { self.new.fleet ≡ self.old.fleet }
     {
         let max = count.min(MOST_SENT) as u32;
@@ -254,8 +252,8 @@ impl World {
     #[tactic(auto, using(crate::proofs::Delivers::delivered_past, crate::proofs::Delivers::delivered_to))]
     fn deliver(&mut self, i: u64) -> Result<(), Halt>
         requires { i < 2 ^ 64 }
-        ensures halt { IfErr result (IsHalt self.old.fleet (Turn.Deliver i) self.old.network) }
-        ensures state { OnOk result (self.new.network ≡ after self.old.fleet (Turn.Deliver i) self.old.network) }
+        ensures halt { IfErr result (Halts (Turn.Deliver i) self.old) }
+        ensures state { OnOk result (Follows (Turn.Deliver i) self.old self.new.network) }
         ensures fleet { self.new.fleet ≡ self.old.fleet }
     {
         let Some(packet) = at(&self.packets, i as usize) else {
@@ -280,8 +278,8 @@ fn take_packet(
 ) -> Result<Option<Message>, Halt>
     requires node { packet.now.to < length nodes.old.items }
     requires nodes { length nodes.old.items ≡ length fleet.now.tree }
-    ensures nodes { OnOk result (nodes.new.items ≡ slice_set nodes.old.items packet.now.to (reception fleet.now nodes.old.items packet.now).node) }
-    ensures reply { IfOk result (λ reply. (packets : List Packet) → with_reply packet.now (reception fleet.now nodes.old.items packet.now).answer packets ≡ with_reply_if_any packet.now reply packets) }
+    ensures nodes { OnOk result (TakesPacket fleet.now packet.now nodes.old.items nodes.new.items) }
+    ensures reply { IfOk result (IsReplyTo fleet.now nodes.old.items packet.now) }
     ensures count { length nodes.new.items ≡ length nodes.old.items }
     ensures fits { IfOk result (λ reply. IfSome reply Within) }
     ensures counted { IfOk result (λ reply. IfSome reply IsCounted) }
@@ -309,7 +307,7 @@ fn push_reply(
 ) -> Result<(), AllocError>
     requires fits { IfSome reply Within }
     requires counted { IfSome reply IsCounted }
-    ensures { (p : Packet) → p.from ≡ from → p.to ≡ to → OnOk result (packets.new.items ≡ with_reply_if_any p reply packets.old.items) }
+    ensures { OnOk result (AddsReply from to reply packets.old.items packets.new.items) }
 {
     if let Some(message) = reply {
         let packet = Packet::new(alloc, to, from, &message);
@@ -330,9 +328,9 @@ fn pending_of(
     requires from { from < length fleet.now.tree }
     requires nodes { length nodes.now ≡ length fleet.now.tree }
     requires neighbour { is_neighbour fleet.now.tree from to ≡ true }
-    ensures messages { IfOk result (λ messages. messages.items ≡ take max (pending fleet.now.tree from to (node_at nodes.now from))) }
-    ensures fits { IfOk result (λ messages. All Within messages.items) }
-    ensures counted { IfOk result (λ messages. All IsCounted messages.items) }
+    ensures ok { IfOk result (λ v. v.items ≡ first_pending fleet.now.tree from to max nodes.now) }
+    ensures fits { IfOk result (λ v. All Within v.items) }
+    ensures counted { IfOk result (λ v. All IsCounted v.items) }
 {
     match nodes[from.index()].pending(fleet, from, to, max) {
         Ok(messages) => Ok(messages),
@@ -351,7 +349,7 @@ fn push_packets(
 ) -> Result<(), AllocError>
     requires fits { All Within messages.now }
     requires counted { All IsCounted messages.now }
-    ensures { OnOk result (packets.new.items ≡ packets.old.items ++ map (network.packet from to) messages.now) }
+    ensures { OnOk result (AddsPackets from to messages.now packets.old.items packets.new.items) }
 {
     for message in messages {
         packets.push(Packet::new(alloc, from, to, message)?)?;
@@ -363,7 +361,7 @@ fn push_packets(
 pub fn tell<K: Sink>(sink: &mut K, text: &[u8]) -> Result<(), StepFault>
     ensures ok { OnOk result (K.held sink.new ≡ contents_after (K.held sink.old) text.now) }
     ensures part { IsPart (K.held sink.old) (K.held sink.new) text.now }
-    ensures faults { CountsFaults (IsErrOf result StepFault.WriteFault) (K.faults sink.old) (K.faults sink.new) }
+    ensures faults { CountsWriteFaults result (K.faults sink.old) (K.faults sink.new) }
     ensures small { IfErr result NeverTooBig }
 {
     match sink.write(text) {
@@ -377,7 +375,7 @@ pub fn tell<K: Sink>(sink: &mut K, text: &[u8]) -> Result<(), StepFault>
 fn tell_some<K: Sink>(sink: &mut K, text: &[u8]) -> Result<(), StepFault>
     ensures ok { OnOk result (K.held sink.new ≡ contents_after (K.held sink.old) text.now) }
     ensures part { IsPart (K.held sink.old) (K.held sink.new) text.now }
-    ensures faults { CountsFaults (IsErrOf result StepFault.WriteFault) (K.faults sink.old) (K.faults sink.new) }
+    ensures faults { CountsWriteFaults result (K.faults sink.old) (K.faults sink.new) }
     ensures small { IfErr result NeverTooBig }
 {
     if text.is_empty() {

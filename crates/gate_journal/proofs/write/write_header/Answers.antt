@@ -3,7 +3,7 @@ use Rattle.salt_disk.specs.Disk.{PartState, part_of, settled_part, put}
 use Rattle.salt_disk.specs.Crash.{WritesOnly}
 use Rattle.salt_disk.proofs.Moments.{joins, weakens}
 use Rattle.salt_disk.proofs.Torn.{on_ok}
-use Rattle.gate_journal.specs.Fresh.{IsFresh, HoldsNothing}
+use Rattle.gate_journal.specs.Creation.{IsFresh, HoldsNothing}
 use Rattle.gate_journal.proofs.Making.{short_image, made, first_bytes}
 use Rattle.gate_journal.proofs.write.write_header.Goals as goal
 

@@ -1,5 +1,5 @@
 use Rattle.std.proofs.Common.{◌≤◌, ◌-◌, length, take, drop}
-use Rattle.salt_frame.specs.Inside.{AreFrames}
+use Rattle.salt_frame.specs.BufferFields.{AreFrames}
 use Rattle.salt_frame.proofs.front.scan.Given as goal
 
 abbrev pub invariant-loop-length : goal.invariant-loop-length

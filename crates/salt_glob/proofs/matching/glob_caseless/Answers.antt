@@ -1,6 +1,6 @@
 use Rattle.std.proofs.Common.{ap, ◌∙◌}
 use Rattle.salt_glob.specs.Globs.{pieces, glob}
-use Rattle.salt_glob.specs.Lowered.{lower_case}
+use Rattle.salt_glob.specs.LowerCase.{lower_case}
 use Rattle.salt_glob.proofs.Pieces.{told_held}
 use Rattle.salt_glob.proofs.matching.glob_caseless.Goals as goal
 

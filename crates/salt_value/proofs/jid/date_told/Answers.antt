@@ -3,7 +3,7 @@ use Rattle.std.proofs.lemmas.Int.{ints}
 use Rattle.jiff_core.proofs.SignedLemmas.{signed_arith}
 use Rattle.jiff_core.specs.declared.civil.date.Date.{Date}
 use Rattle.jiff_core.specs.Calendar.{IsDate}
-use Rattle.salt_value.specs.Told.{date_told}
+use Rattle.salt_value.specs.DateNumbers.{date_told}
 use Rattle.salt_value.proofs.JidLaws.{day_high}
 use Rattle.salt_value.proofs.jid.date_told.Goals as goal
 

@@ -3,4 +3,4 @@ use Rattle.std.proofs.lemmas.Bool.Decides.{Decides-eqb}
 use Rattle.script_text.proofs.lines.strip_front.Goals as goal
 
 pub returns : goal.returns
-returns c = strip_prefix_is Decides-eqb c.args.text.now c.args.front.now c.strip_prefix.result c.strip_prefix.ensures.cases
+returns c = strip_prefix_is Decides-eqb c.args.text.now c.args.head.now c.strip_prefix.result c.strip_prefix.ensures.cases

@@ -1,7 +1,7 @@
 use Rattle.std.proofs.Common.{◌++◌, ap, sym, subst, ◌∙◌, ℕ, append-nil, arith}
 use Rattle.script_text.specs.Lines.{lines_of}
 use Rattle.script_text.specs.Draft.{draft_lines}
-use Rattle.script_text.specs.Refused.{IsRefusedAt}
+use Rattle.script_text.specs.Refusals.{IsRefusedAt}
 use Rattle.script_text.proofs.Drafts.{draft_goes_on}
 use Rattle.script_text.proofs.Refusals.{refused_line, refused_end, same_line, small_number}
 use Rattle.script_text.proofs.script.read_script.Goals as goal

@@ -1,6 +1,6 @@
 use Rattle.std.proofs.Common.{codes, arith, sym, ap, ◌∙◌}
 use Rattle.std.specs.List.{list_any}
-use Rattle.salt_glob.specs.Lowered.{glob_caseless}
+use Rattle.salt_glob.specs.LowerCase.{glob_caseless}
 use Rattle.salt_value.specs.declared.value.Value.{size-Value}
 use Rattle.target_match.specs.Paths.{parts}
 use Rattle.target_match.specs.Data.{meets, map_meets, told_pairs}

@@ -1,7 +1,7 @@
 use Rattle.std.proofs.Common.{◌≡◌, true, sym, ap, ◌∙◌}
 use Rattle.std.specs.List.{list_any}
 use Rattle.std.proofs.Math.ListN.{drop_of_length-le}
-use Rattle.salt_glob.specs.Lowered.{glob_caseless}
+use Rattle.salt_glob.specs.LowerCase.{glob_caseless}
 use Rattle.target_match.proofs.Meeting.{keys-any, any-some}
 use Rattle.target_match.proofs.data.any_key_meets.Goals as goal
 

@@ -1,6 +1,6 @@
 use Rattle.std.proofs.Common.{◌≡◌, drop}
 use Rattle.std.specs.List.{list_any}
-use Rattle.salt_glob.specs.Lowered.{glob_caseless}
+use Rattle.salt_glob.specs.LowerCase.{glob_caseless}
 use Rattle.target_match.proofs.data.any_key_meets.Given as goal
 
 abbrev pub invariant-loop-name : goal.invariant-loop-name

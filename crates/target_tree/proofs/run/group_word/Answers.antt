@@ -1,5 +1,5 @@
 use Rattle.target_tree.specs.Words.{tokens_of}
-use Rattle.target_tree.specs.Going.{ReadsOn}
+use Rattle.target_tree.specs.WaitingTexts.{ReadsOn}
 use Rattle.target_tree.specs.declared.token.Token.TheVariants.{Nodegroup}
 use Rattle.std.proofs.Common.{◌∷◌}
 use Rattle.target_tree.proofs.Steps.{goes-open, shut-goes, handed}

@@ -1,6 +1,6 @@
 use Rattle.std.proofs.Common.{◌≡◌, drop}
 use Rattle.target_tree.specs.Nodegroups.{is_among}
-use Rattle.target_tree.specs.Going.{names_of}
+use Rattle.target_tree.specs.WaitingTexts.{names_of}
 use Rattle.target_tree.proofs.run.is_waiting.Given as goal
 
 abbrev pub invariant-loop-outer : goal.invariant-loop-outer

@@ -1,6 +1,6 @@
 use Rattle.target_tree.specs.Words.{tokens_of}
 use Rattle.std.proofs.Common.{◌∷◌}
-use Rattle.target_tree.specs.Going.{ReadsOn}
+use Rattle.target_tree.specs.WaitingTexts.{ReadsOn}
 use Rattle.target_tree.proofs.Steps.{goes-plain, plain-fails, is_plain, handed}
 use Rattle.target_tree.proofs.run.one_word.Goals as goal
 

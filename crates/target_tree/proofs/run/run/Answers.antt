@@ -1,7 +1,7 @@
 use Rattle.std.proofs.Common.{◌≡◌, Ok, ◌+◌, ◌-◌, ◌≤◌, ◌∷◌, length, rules, ap, ◌∙◌, sym, arith}
 use Rattle.target_tree.specs.Words.{tokens_of}
 use Rattle.target_tree.specs.Machine.{GivesTree}
-use Rattle.target_tree.specs.Going.{Goes, going}
+use Rattle.target_tree.specs.WaitingTexts.{Goes, going}
 use Rattle.target_tree.proofs.Cuts.{tokens-more, tokens-none}
 use Rattle.target_tree.proofs.Steps.{run-word, run-word-fails, run-last, run-end, run-end-fails, resumed-at, ended-at, handed}
 use Rattle.target_tree.proofs.run.run.Goals as goal

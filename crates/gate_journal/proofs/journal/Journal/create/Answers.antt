@@ -1,5 +1,5 @@
 use Rattle.salt_disk.specs.Crash.{MayLeave}
-use Rattle.gate_journal.specs.Fresh.{HoldsNothing}
+use Rattle.gate_journal.specs.Creation.{HoldsNothing}
 use Rattle.gate_journal.proofs.Making.{before_create, stands}
 use Rattle.gate_journal.proofs.journal.Journal.create.Goals as goal
 

@@ -2,7 +2,7 @@ use Rattle.std.proofs.Common.{ℕ, List, refl, ◌∙◌, ap, subst, rules}
 use Rattle.salt_disk.specs.Disk.{part_of}
 use Rattle.gate_journal.specs.declared.fault.LoadFault.TheVariants.{Damaged}
 use Rattle.gate_journal.specs.Journal.{IsJournal}
-use Rattle.gate_journal.specs.Read.{IsNoJournal, IsDamagedAt}
+use Rattle.gate_journal.specs.Damage.{IsNoJournal, IsDamagedAt}
 use Rattle.gate_journal.proofs.Exact.{journal_is_one, journal_not_damaged, damaged_is_one, damaged_once}
 use Rattle.gate_journal.proofs.Unique.{one_journal}
 use Rattle.gate_journal.proofs.journal.Journal.load.Goals as goal

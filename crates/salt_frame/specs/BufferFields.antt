@@ -3,11 +3,11 @@ use Rattle.std.specs.Prelude.{◌≡◌, ◌≤◌, ◌-◌, ◌<◌, ◌^◌, �
 use Rattle.std.specs.Int.{w32, to_be_bytes}
 use Rattle.std.specs.List.{AllByRecursion}
 use Rattle.salt_frame.specs.Frames.{frames, limit, IsBody, IsPartial}
-use Rattle.salt_frame.specs.Held.{Held}
+use Rattle.salt_frame.specs.Buffer.{BufferState}
 use Rattle.salt_frame.specs.declared.buffer.FrameBuf.TheInside.{Inside}
 
 -- what a buffer's fields hold
-abbrev pub view_of : Inside → Held
+abbrev pub view_of : Inside → BufferState
 view_of a = record { kept = drop a.start a.bytes.items; over = a.over }
 
 -- Whole frames alone. No public contract cites it.
