@@ -1,18 +1,17 @@
 -- What a run over a script that was read does.
-use Rattle.std.proofs.Common.{◌≡◌, ◌⊎◌, ℕ, List, [], ◌∷◌, ◌++◌, subst, ◌∙◌, inl, inr, refl, arith, append-nil}
+use Rattle.std.proofs.Common.{◌≡◌, ◌⊎◌, ℕ, List, [], ◌∷◌, ◌++◌, subst, ◌∙◌, inl, inr, arith, append-nil}
 use Rattle.std.specs.List.{AllByRecursion}
 use Rattle.fleet_config.specs.Fleet.{FleetConfig, IsFleet}
 use Rattle.fleet_config.proofs.Fleets.{flat_is_tree}
 use Rattle.fleet_turns.specs.declared.turn.Turn.{Turn}
 use Rattle.fleet_turns.specs.Turns.{IsTurn}
-use Rattle.script_text.specs.Refusals.{IsRefusedAt}
 use Rattle.std.specs.Prelude.{◌≢◌, Option, None, Some}
 use Rattle.salt_outside.specs.Causes.{Rose}
-use Rattle.salt_outside.proofs.Parts.{part_none}
 use Rattle.salt_outside.specs.Streams.{contents_after, left_before, IsPart, IsRest, IsAtEnd, HasAtMost}
 use Rattle.script_text.specs.declared.script.Script.{Script}
 use Rattle.script_text.specs.Script.{IsScript, Spells, MayStand, fleet_of, most_script_bytes}
-use Rattle.salt_replay.specs.Replay.{HasReplayed, MaySpell, DoesSpell, MayRefuse, IsReplayStatus, IsLineTold, refused_line, text_of_script}
+use Rattle.salt_replay.specs.declared.replay.Status.{Status}
+use Rattle.salt_replay.specs.Replay.{Plays, MaySpell, DoesSpell, IsReplayStatus, text_of_script}
 
 some_same : (a b : List ℕ) → Some a ≡ Some b → a ≡ b
 some_same a b e = cc
@@ -46,85 +45,50 @@ kept_of code P cases (inr (inl e)) f = f (inr e)
 kept_of code P cases (inr (inr e)) f = absurd (not_status code 4 cases e (omega arith) (omega arith) (omega arith))
 
 -- what a run over the script that was read does
-pub replayed : (left : Option (List ℕ)) (read_before read_now : ℕ) (held_before held_now : Option (List ℕ)) (write_before write_now code : ℕ)
-    (text : List ℕ) (left_now : Option (List ℕ)) (s : Script)
-    → left ≡ left_before text left_now → IsAtEnd left_now → IsRest left left_now → read_now ≡ read_before
-    → Spells s text → ((other : Script) → Spells other text → other ≡ s)
-    → IsPart held_before held_now (text_of_script s)
-    → (code ≡ 0 → held_now ≡ contents_after held_before (text_of_script s))
-    → (code ≡ 5 → Rose write_before write_now) → ((code ≡ 0) ⊎ (code ≡ 1) → write_now ≡ write_before)
-    → (code ≡ 0) ⊎ (code ≡ 1) ⊎ (code ≡ 5) → HasAtMost most_script_bytes left
-    → HasReplayed left left_now read_before read_now held_before held_now write_before write_now code
-replayed left rb rn hb hn wb wn code text left_now s e end rest read spells only part done rose kept cases fits =
-    let may : MaySpell s left = may_spell s text left left_now e end spells in
-    let same : (other : Script) → DoesSpell other left → other ≡ s = λ other h. only other (does_spell other text left left_now e end h) in
-    record {
-      status = status_of code cases;
-      done = λ z. (s, may, done z);
-      text = λ other h z. rw (same other h) (done z);
-      part = λ other h z. rw (same other h) part;
-      silent = λ z bytes told none. absurd (none s (subst (λ t. MaySpell s t) told may));
-      write_fault = λ z. (rose z, (s, may));
-      write_kept = λ z. kept_of code (wn ≡ wb) cases z kept;
-      refused = λ z other h. not_status code 3 cases z (omega arith) (omega arith) (omega arith);
-      refusal = λ z. absurd (not_status code 3 cases z (omega arith) (omega arith) (omega arith));
-      read_fault = λ z. absurd (not_status code 4 cases z (omega arith) (omega arith) (omega arith));
-      read_kept = λ z. read;
-      too_long = λ z. absurd (not_status code 12 cases z (omega arith) (omega arith) (omega arith));
-      fits = λ z. fits;
-      rest = rest;
-      read_whole = λ z. end;
-    }
-
--- what a run over a text that is no script does
-pub may_refuse : (n : ℕ) (text : List ℕ) (left rest : Option (List ℕ)) → left ≡ left_before text rest → IsAtEnd rest → IsRefusedAt n text → MayRefuse n left
-may_refuse n text None rest e end h = tt
-may_refuse n text (Some bytes) rest e end h = rw (all_read text bytes rest e end) h
-
-pub refused_run : (left : Option (List ℕ)) (read_before read_now : ℕ) (held_before held_now : Option (List ℕ)) (write_before write_now : ℕ)
-    (text : List ℕ) (left_now : Option (List ℕ)) (n : ℕ)
-    → left ≡ left_before text left_now → IsAtEnd left_now → IsRest left left_now → read_now ≡ read_before → IsRefusedAt n text
-    → IsLineTold (refused_line n) held_before held_now write_before write_now → HasAtMost most_script_bytes left
-    → HasReplayed left left_now read_before read_now held_before held_now write_before write_now 3
-refused_run left rb rn hb hn wb wn text left_now n e end rest read place told fits = record {
-  status = inr (inr (inl refl));
-  done = λ z. absurd (omega (arith, z));
-  text = λ other h z. absurd (omega (arith, z));
-  part = λ other h z. absurd (grind (arith, z));
-  silent = λ z bytes told other. absurd (omega (arith, z));
-  write_fault = λ z. absurd (omega (arith, z));
-  write_kept = λ z. absurd (grind (arith, z));
-  refused = λ z other h. place.none other (does_spell other text left left_now e end h);
-  refusal = λ z. (n, may_refuse n text left left_now e end place, told);
-  read_fault = λ z. absurd (omega (arith, z));
-  read_kept = λ z. read;
-  too_long = λ z. absurd (omega (arith, z));
-  fits = λ z. fits;
-  rest = rest;
-  read_whole = λ z. end;
-}
-
--- a run that found no memory and wrote nothing
-pub silent_run : (left left_now : Option (List ℕ)) (read_before read_now : ℕ) (held_before held_now : Option (List ℕ)) (write_before write_now : ℕ)
-    → held_now ≡ held_before → read_now ≡ read_before → write_now ≡ write_before → IsRest left left_now
-    → HasReplayed left left_now read_before read_now held_before held_now write_before write_now 1
-silent_run left left_now rb rn hb hn wb wn same read write rest = record {
-  status = inr (inl refl);
-  done = λ z. absurd (omega (arith, z));
-  text = λ other h z. absurd (omega (arith, z));
-  part = λ other h z. part_none hb hn (text_of_script other) same;
-  silent = λ z bytes told none. same;
-  write_fault = λ z. absurd (omega (arith, z));
-  write_kept = λ z. write;
-  refused = λ z other h. absurd (omega (arith, z));
-  refusal = λ z. absurd (omega (arith, z));
-  read_fault = λ z. absurd (omega (arith, z));
-  read_kept = λ z. read;
-  too_long = λ z. absurd (omega (arith, z));
-  fits = λ z. absurd (grind (arith, z));
-  rest = rest;
-  read_whole = λ z. absurd (grind (arith, z));
-}
+module _ {S K : Type 0} (left : S → Option (List ℕ)) (read_faults : S → ℕ) (source source_now : S) (held : K → Option (List ℕ)) (write_faults : K → ℕ) (sink sink_now : K) where
+  pub replayed : (status : Status) (text : List ℕ) (s : Script)
+      → left source ≡ left_before text (left source_now) → IsAtEnd (left source_now) → IsRest (left source) (left source_now) → read_faults source_now ≡ read_faults source
+      → Spells s text → ((other : Script) → Spells other text → other ≡ s)
+      → IsPart (held sink) (held sink_now) (text_of_script s)
+      → (status.code ≡ 0 → held sink_now ≡ contents_after (held sink) (text_of_script s))
+      → (status.code ≡ 5 → Rose (write_faults sink) (write_faults sink_now)) → ((status.code ≡ 0) ⊎ (status.code ≡ 1) → write_faults sink_now ≡ write_faults sink)
+      → (status.code ≡ 0) ⊎ (status.code ≡ 1) ⊎ (status.code ≡ 5) → HasAtMost most_script_bytes (left source)
+      → Plays left read_faults source source_now held write_faults sink sink_now status
+  replayed status text s e end rest read spells only part done rose kept cases fits =
+      let code : ℕ = status.code in
+      let may : MaySpell s (left source) = may_spell s text (left source) (left source_now) e end spells in
+      let same : (other : Script) → DoesSpell other (left source) → other ≡ s = λ other h. only other (does_spell other text (left source) (left source_now) e end h) in
+      record {
+        status_is = status_of code cases;
+        left_is = record {
+          rest = rest;
+          whole = λ z. end;
+          too_long = λ z. absurd (not_status code 12 cases z (omega arith) (omega arith) (omega arith));
+          fits = λ z. fits;
+        };
+        reads = record {
+          rose = λ z. absurd (not_status code 4 cases z (omega arith) (omega arith) (omega arith));
+          kept = λ z. read;
+        };
+        text = record {
+          done = λ z. (s, may, done z);
+          text = λ other h z. rw (same other h) (done z);
+          part = λ other h z. rw (same other h) part;
+          silent = λ z bytes told none. absurd (none s (subst (λ t. MaySpell s t) told may));
+          unread = λ z. absurd (not_status code 4 cases z (omega arith) (omega arith) (omega arith));
+          write_fault = λ z. (s, may);
+          refused = λ z other h. not_status code 3 cases z (omega arith) (omega arith) (omega arith);
+        };
+        line = record {
+          refusal = λ z. absurd (not_status code 3 cases z (omega arith) (omega arith) (omega arith));
+          too_long = λ z. absurd (not_status code 12 cases z (omega arith) (omega arith) (omega arith));
+          no_command = λ z. absurd (not_status code 2 cases z (omega arith) (omega arith) (omega arith));
+        };
+        writes = record {
+          rose = rose;
+          kept = λ z. kept_of code (write_faults sink_now ≡ write_faults sink) cases z kept;
+        };
+      }
 
 -- the turns of a script are turns of its fleet
 pub are_turns : (f : FleetConfig) (turns : List Turn) → AllByRecursion (MayStand f) turns → AllByRecursion (IsTurn f) turns

@@ -46,5 +46,6 @@ abbrev pub HasPrinted : Script → Option (List ℕ) → Option (List ℕ) → T
 HasPrinted s held_before held_now = (text : List ℕ) × (held_now ≡ contents_after held_before text) × IsPrinted s text
 
 -- Over a source that is told and has the text of a script left, status 0 leaves the sink so.
-abbrev pub PrintsScripts : Option (List ℕ) → Option (List ℕ) → Option (List ℕ) → ℕ → Type 0
-PrintsScripts left held_before held_now code = (s : Script) → DoesSpell s left → code ≡ 0 → HasPrinted s held_before held_now
+abbrev pub PrintsScripts : {S K : Type 0} → (S → Option (List ℕ)) → S → (K → Option (List ℕ)) → K → K → ℕ → Type 0
+PrintsScripts left source held sink sink_now code =
+    (s : Script) → DoesSpell s (left source) → code ≡ 0 → HasPrinted s (held sink) (held sink_now)

@@ -1,15 +1,14 @@
 //! The commands: a script is read, and the text of its run written.
-ghost use Rattle.std.specs.Prelude.{◌≡◌, ◌≢◌, ◌∷◌, [], ◌↔◌, codes, length, IsTrue, List, IfOk, IfErr, OnOk, OnErr, IsErrOf};
-ghost use Rattle.salt_outside.specs.Causes.{CountsFaults};
-ghost use Rattle.salt_outside.specs.Streams.{contents_after, IsPart};
+ghost use Rattle.std.specs.Prelude.{◌≡◌, ◌≢◌, ◌↔◌, codes, IsTrue, IfOk, IfErr, OnOk, OnErr};
+ghost use Rattle.salt_outside.specs.Causes.{CountsFailures};
+ghost use Rattle.salt_outside.specs.Streams.{WritesAll, IsPart};
 ghost use Rattle.std.specs.List.{AllByRecursion};
-ghost use Rattle.fleet_config.specs.Fleet.{FleetConfig, IsFleet};
-ghost use Rattle.fleet_turns.specs.declared.turn.Turn.{Turn};
+ghost use Rattle.fleet_config.specs.Fleet.{IsFleet};
 ghost use Rattle.tree_world.specs.Network.{start};
 ghost use Rattle.tree_world.specs.Halts.{NeverTooBig};
-ghost use Rattle.tree_world.specs.Text.{text_from};
+ghost use Rattle.tree_world.specs.Text.{text_of};
 ghost use Rattle.script_text.specs.Script.{IsScript, MayStand};
-ghost use Rattle.salt_replay.specs.Replay.{text_of_script, refused_line, IsLineTold, IsNoCommand, HasReplayed, StaysSound, MeetNoBigPattern};
+ghost use Rattle.salt_replay.specs.Replay.{text_of_script, command, refused_line, IsLineTold, IsReplayStatus, IsNoCommand, ReadsScript, CountsReads, WritesScript, TellsLine, CountsWrites, Plays, StaysSound, MeetNoBigPatternEver};
 ghost use Rattle.salt_replay.specs.Output.{IsPrinted, PrintsScripts};
 ghost use Rattle.script_text.specs.declared.script.Script.{Script};
 
@@ -32,9 +31,9 @@ fn run_turns<K: Sink>(world: &mut World, turns: &[Turn], sink: &mut K) -> Result
     requires fleet { IsFleet world.old.fleet }
     requires start { world.old.network ≡ start world.old.fleet }
     requires turns { AllByRecursion (MayStand world.old.fleet) turns.now }
-    ensures text { OnOk result (K.held sink.new ≡ contents_after (K.held sink.old) (text_from world.old.fleet turns.now world.old.network)) }
-    ensures part { IsPart (K.held sink.old) (K.held sink.new) (text_from world.old.fleet turns.now world.old.network) }
-    ensures faults { CountsFaults (IsErrOf result StepFault.WriteFault) (K.faults sink.old) (K.faults sink.new) }
+    ensures text { WritesAll K.held sink.old sink.new (text_of world.old.fleet turns.now) result }
+    ensures part { IsPart (K.held sink.old) (K.held sink.new) (text_of world.old.fleet turns.now) }
+    ensures faults { CountsFailures K.faults StepFault.WriteFault sink.old sink.new result }
     ensures small { IfErr result NeverTooBig }
 {
     no_pattern_is_big();
@@ -47,9 +46,9 @@ fn run_turns<K: Sink>(world: &mut World, turns: &[Turn], sink: &mut K) -> Result
 // Runs a script.
 fn play<K: Sink>(alloc: Global, script: Script, sink: &mut K) -> Result<(), StepFault>
     requires { IsScript script }
-    ensures text { OnOk result (K.held sink.new ≡ contents_after (K.held sink.old) (text_of_script script)) }
+    ensures text { WritesAll K.held sink.old sink.new (text_of_script script) result }
     ensures part { IsPart (K.held sink.old) (K.held sink.new) (text_of_script script) }
-    ensures faults { CountsFaults (IsErrOf result StepFault.WriteFault) (K.faults sink.old) (K.faults sink.new) }
+    ensures faults { CountsFailures K.faults StepFault.WriteFault sink.old sink.new result }
     ensures small { IfErr result NeverTooBig }
 {
     let Script {
@@ -63,7 +62,7 @@ fn play<K: Sink>(alloc: Global, script: Script, sink: &mut K) -> Result<(), Step
 
 // Writes the one line of a run. A sink that fails holds a front of it.
 fn write_line<K: Sink>(sink: &mut K, line: &[u8]) -> Result<(), AllocError>
-    ensures ok { OnOk result (IsLineTold line.now (K.held sink.old) (K.held sink.new) (K.faults sink.old) (K.faults sink.new)) }
+    ensures ok { OnOk result (IsLineTold line.now K.held K.faults sink.old sink.new) }
     ensures err { OnErr result (K.held sink.new ≡ K.held sink.old) }
     ensures memory { OnErr result (K.faults sink.new ≡ K.faults sink.old) }
 {
@@ -75,7 +74,7 @@ fn write_line<K: Sink>(sink: &mut K, line: &[u8]) -> Result<(), AllocError>
 
 // Writes the line that refuses a script.
 fn write_refusal<K: Sink>(alloc: Global, line: u32, sink: &mut K) -> Result<(), AllocError>
-    ensures ok { OnOk result (IsLineTold (refused_line line) (K.held sink.old) (K.held sink.new) (K.faults sink.old) (K.faults sink.new)) }
+    ensures ok { OnOk result (IsLineTold (refused_line line) K.held K.faults sink.old sink.new) }
     ensures err { OnErr result (K.held sink.new ≡ K.held sink.old) }
     ensures memory { OnErr result (K.faults sink.new ≡ K.faults sink.old) }
 {
@@ -96,7 +95,7 @@ fn refusal_text(alloc: Global, line: u32) -> Result<Vec<u8>, AllocError>
 
 // No turn that a script may have meets a pattern that is too big.
 fn no_pattern_is_big()
-    ensures { (f : FleetConfig) (turns : List Turn) → IsFleet f → AllByRecursion (MayStand f) turns → MeetNoBigPattern f turns }
+    ensures { MeetNoBigPatternEver }
 {
     whole_runs();
 }
@@ -119,10 +118,14 @@ fn scripts_print_sound()
 /// Reads a script and writes the text of its run. Status 0 is a whole run, 1 want of memory, 3 a text that is no script, 4 a source
 /// that failed, 5 a sink that failed, and 12 a source of over 16,777,216 bytes. The statuses are this project's own.
 pub fn run_replay<S: Source, K: Sink>(alloc: Global, source: &mut S, sink: &mut K) -> Status
-    ensures printed { PrintsScripts (S.left source.old) (K.held sink.old) (K.held sink.new) result.code }
+    ensures status { IsReplayStatus result.code }
+    ensures left { ReadsScript S.left source.old source.new result.code }
+    ensures reads { CountsReads S.faults source.old source.new result.code }
+    ensures text { WritesScript S.left source.old K.held sink.old sink.new result.code }
+    ensures line { TellsLine S.left source.old K.held K.faults sink.old sink.new result.code }
+    ensures writes { CountsWrites K.faults sink.old sink.new result.code }
+    ensures printed { PrintsScripts S.left source.old K.held sink.old sink.new result.code }
     ensures sound { (script : Script) → IsScript script → StaysSound script }
-    ensures replayed { HasReplayed (S.left source.old) (S.left source.new) (S.faults source.old) (S.faults source.new)
-        (K.held sink.old) (K.held sink.new) (K.faults sink.old) (K.faults sink.new) result.code }
 {
     scripts_stay_sound();
     scripts_print_sound();
@@ -131,8 +134,7 @@ pub fn run_replay<S: Source, K: Sink>(alloc: Global, source: &mut S, sink: &mut 
 
 // Reads a script and runs it.
 fn replay_script<S: Source, K: Sink>(alloc: Global, source: &mut S, sink: &mut K) -> Status
-    ensures { HasReplayed (S.left source.old) (S.left source.new) (S.faults source.old) (S.faults source.new)
-        (K.held sink.old) (K.held sink.new) (K.faults sink.old) (K.faults sink.new) result.code }
+    ensures { Plays S.left S.faults source.old source.new K.held K.faults sink.old sink.new result }
 {
     let text = match read_all(alloc, source, MOST_SCRIPT_BYTES) {
         Ok(text) => text,
@@ -170,15 +172,18 @@ pub fn salt_main<S: Source, K: Sink>(
     source: &mut S,
     sink: &mut K,
 ) -> Status
-    ensures printed { words.now ≡ codes "replay" ∷ [] →
-        PrintsScripts (S.left source.old) (K.held sink.old) (K.held sink.new) result.code }
-    ensures sound { words.now ≡ codes "replay" ∷ [] → (script : Script) → IsScript script → StaysSound script }
-    ensures replayed { words.now ≡ codes "replay" ∷ [] →
-        HasReplayed (S.left source.old) (S.left source.new) (S.faults source.old) (S.faults source.new)
-        (K.held sink.old) (K.held sink.new) (K.faults sink.old) (K.faults sink.new) result.code }
-    ensures no_command { words.now ≢ codes "replay" ∷ [] → IsNoCommand (K.held sink.old) (K.held sink.new) (K.faults sink.old) (K.faults sink.new) result.code }
-    ensures source { words.now ≢ codes "replay" ∷ [] → source.new ≡ source.old }
+    ensures status { words.now ≡ command → IsReplayStatus result.code }
+    ensures left { ReadsScript S.left source.old source.new result.code }
+    ensures reads { CountsReads S.faults source.old source.new result.code }
+    ensures text { WritesScript S.left source.old K.held sink.old sink.new result.code }
+    ensures line { TellsLine S.left source.old K.held K.faults sink.old sink.new result.code }
+    ensures writes { CountsWrites K.faults sink.old sink.new result.code }
+    ensures no_command { words.now ≢ command → IsNoCommand K.held sink.old sink.new result.code }
+    ensures source { words.now ≢ command → source.new ≡ source.old }
+    ensures printed { PrintsScripts S.left source.old K.held sink.old sink.new result.code }
+    ensures sound { (script : Script) → IsScript script → StaysSound script }
 {
+    scripts_stay_sound();
     if is_replay(words) {
         run_replay(alloc, source, sink)
     } else {
@@ -191,7 +196,7 @@ pub fn salt_main<S: Source, K: Sink>(
 
 // Are the words the one word `replay`?
 fn is_replay(words: &[Text]) -> bool
-    ensures { IsTrue result ↔ (words.now ≡ codes "replay" ∷ []) }
+    ensures { IsTrue result ↔ (words.now ≡ command) }
 {
     match words {
         [word] => is_word(word),
