@@ -1,5 +1,6 @@
 //! Minions, and the flat fleet that every report is measured by.
-ghost use Rattle.std.specs.Prelude.{◌≡◌, ◌++◌, map, IfOk, OnOk};
+ghost use Rattle.std.specs.Prelude.{◌≡◌, IfOk};
+ghost use Rattle.flat_fleet.specs.Reports.{AreBuiltOf};
 ghost use Rattle.minion_core.specs.Limits.{DeedFits};
 ghost use Rattle.salt_wire.specs.Limits.{JobFits};
 
@@ -266,14 +267,15 @@ fn matcher_of(alloc: Global, job: &Job) -> Result<Matcher, AllocError>
     }
 }
 
-// The matcher of each job more.
-fn push_matchers(alloc: Global, jobs: &[Job], matchers: &mut Vec<Matcher>) -> Result<(), AllocError>
-    ensures ok { OnOk result (matchers.new.items ≡ matchers.old.items ++ map (λ job. job.target) jobs.now) }
+// The matcher of each job.
+fn matchers_of(alloc: Global, jobs: &[Job]) -> Result<Vec<Matcher>, AllocError>
+    ensures ok { IfOk result (λ matchers. AreBuiltOf jobs.now matchers.items) }
 {
+    let mut matchers = Vec::new(alloc);
     for job in jobs {
         matchers.push(matcher_of(alloc, job)?)?;
     }
-    Ok(())
+    Ok(matchers)
 }
 
 fn reports(
@@ -283,8 +285,7 @@ fn reports(
     orders: &[Order],
 ) -> Vec<FlatReport> {
     let jobs = jobs(rt, alloc, orders);
-    let mut matchers = Vec::new(alloc);
-    push_matchers(alloc, &jobs, &mut matchers).expect(rt, FAILED);
+    let matchers = matchers_of(alloc, &jobs).expect(rt, FAILED);
     flat_reports(alloc, fleet, &jobs, &matchers).expect(rt, FAILED)
 }
 

@@ -12,6 +12,8 @@ mod kinds;
 #[cfg(test)]
 mod laws;
 #[cfg(test)]
+mod lengths;
+#[cfg(test)]
 mod matching;
 #[cfg(test)]
 mod said;
