@@ -10,8 +10,16 @@ const FAILED: &str = "memory, and room in a log";
 // What is told in order: at which place, and the number of the start.
 static TOLD: [(u32, u32); 5] = [(2, 7), (0, 1), (2, 8), (0, 4294967295), (2, 9)];
 
-// At each place then: how many entries its log has, and the starts that the first and the last one tell, 0 where there is none.
-static SEEN: [(u32, u32, u32); 4] = [(2, 1, 4294967295), (0, 0, 0), (3, 7, 9), (0, 0, 0)];
+// A place, how many entries its log has, and the starts that the first and the last one tell, 0 where there is none.
+type Seen = (u32, u32, u32, u32);
+
+// What is seen at each place then.
+static SEEN: [Seen; 4] = [
+    (0, 2, 1, 4294967295),
+    (1, 0, 0, 0),
+    (2, 3, 7, 9),
+    (3, 0, 0, 0),
+];
 
 // A start more in the log at a place.
 fn tell(rt: &impl Abort, logs: &mut UpLogs, minion: u32, boot: u32) {
@@ -39,27 +47,26 @@ fn boot_of(entry: Option<&Entry>) -> u32 {
     }
 }
 
-// How many entries the log at a place has, and the starts that the first and the last one tell.
-fn seen_at(rt: &impl Abort, logs: &UpLogs, minion: u32) -> (u32, u32, u32) {
+// What is seen at a place.
+fn seen_at(rt: &impl Abort, logs: &UpLogs, minion: u32) -> Seen {
     if minion >= logs.minions() {
         panic!(rt; "{FAILED}");
     }
     let entries = logs.entries(minion);
     (
+        minion,
         logs.count(minion),
         boot_of(entries.first()),
         boot_of(entries.last()),
     )
 }
 
-// Each log is as a table says, and there are no more logs.
-fn has_logs(rt: &impl Abort, logs: &UpLogs, table: &[(u32, u32, u32)]) {
-    let mut minion = 0;
+// There is a log for each row of the table, which says what is seen of it.
+fn has_logs(rt: &impl Abort, logs: &UpLogs, table: &[Seen]) {
+    assert_eq!(rt; logs.minions() as usize, table.len());
     for row in table {
-        assert_eq!(rt; seen_at(rt, logs, minion), *row, "{minion}");
-        minion += 1;
+        assert_eq!(rt; seen_at(rt, logs, row.0), *row);
     }
-    assert_eq!(rt; logs.minions(), minion);
 }
 
 #[test]
