@@ -77,7 +77,7 @@ fn each_entry_is_the_last_of_its_log(rt: HostRuntime) {
 }
 
 #[test]
-fn no_minion_has_no_log(rt: HostRuntime) {
+fn without_minions_there_is_no_log(rt: HostRuntime) {
     let logs = UpLogs::new(rt.alloc(), 0).expect(&rt, FAILED);
     has_logs(&rt, &logs, &[]);
 }
