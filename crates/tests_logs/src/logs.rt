@@ -1,6 +1,5 @@
 //! Logs of minions, and how they grow.
 use salt_wire::Entry;
-use std::alloc::Global;
 use std::process::Abort;
 use up_logs::UpLogs;
 
