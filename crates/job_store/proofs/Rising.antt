@@ -1,6 +1,6 @@
 -- Jobs whose jids rise: one more, and what a search finds among them.
-use Rattle.std.proofs.Common.{◌≡◌, ℕ, zero, suc, ◌+◌, ◌-◌, ◌<◌, ◌≤◌, ◌∙◌, sym, ap, refl, Bool, true, false, cond, List, [], ◌∷◌, ◌++◌, length, get_or, arith}
-use Rattle.std.specs.Prelude.{Option, None, Some, nat_lt, position, ◌==◌, ◌&&◌}
+use Rattle.std.proofs.Common.{◌≡◌, ℕ, zero, suc, ◌-◌, ◌<◌, ◌≤◌, sym, ap, refl, Bool, true, false, List, [], ◌∷◌, ◌++◌, length, get_or, arith}
+use Rattle.std.specs.Prelude.{None, Some, nat_lt, position, ◌==◌, ◌&&◌}
 use Rattle.std.specs.List.{position_or_len, HoldsAt}
 use Rattle.std.specs.List.Sorted.{IsNonDecreasingBy, IsPartitionPoint}
 use Rattle.std.specs.Ordering.{nat_cmp, ordering_index}
@@ -110,9 +110,12 @@ found_nowhere (x ∷ xs) up jid at parted =
   where
     parts : IsPartitionPoint (λ job. nat_cmp job.jid jid ≡ Less) (λ job. nat_cmp job.jid jid ≡ Greater) (x ∷ xs) at
     parts = parted (comparisons_rise (x ∷ xs) up jid)
+
     below : (k : ℕ) → k < at → ((get_or (x ∷ xs) k x).jid == jid) ≡ false
     below k l = differ_below _ jid (ranked _ jid Less (sym (parts.0 k x (omega arith) l)))
+
     beyond : (k : ℕ) → at ≤ k → k < length (x ∷ xs) → ((get_or (x ∷ xs) k x).jid == jid) ≡ false
     beyond k le l = differ_above _ jid (ranked _ jid Greater (sym (parts.1 k x le l)))
+
     misses : (k : ℕ) → k < length (x ∷ xs) → ((get_or (x ∷ xs) k x).jid == jid) ≡ false
     misses k l = grind (arith, below k, beyond k)

@@ -1,5 +1,5 @@
 -- What a store keeps, as the store that contracts see.
-use Rattle.std.proofs.Common.{◌≡◌, ℕ, zero, suc, ◌+◌, ◌<◌, ◌^◌, ◌∙◌, sym, ap, refl, Bool, true, false, true≢false, take, List, [], ◌∷◌, ◌++◌, length, map, Option, None, Some, slice_get, bytes_eq, arith}
+use Rattle.std.proofs.Common.{◌≡◌, ℕ, zero, suc, ◌+◌, ◌<◌, ◌∙◌, sym, ap, refl, Bool, true, false, true≢false, take, List, [], ◌∷◌, ◌++◌, length, Option, None, Some, slice_get, bytes_eq, arith}
 use Rattle.std.specs.Prelude.{slice_set, is_some, unwrap_or}
 use Rattle.std.proofs.Math.Seq.{take-append_seam}
 use Rattle.std.specs.Option.{option_copied, option_map_or}
@@ -11,7 +11,7 @@ use Rattle.indexmap.specs.IndexMap.{get}
 use Rattle.salt_value.specs.declared.outcome.Outcome.{Outcome}
 use Rattle.salt_value.specs.declared.outcome.Row.{Row}
 use Rattle.salt_wire.specs.declared.message.Job.{Job}
-use Rattle.minion_core.specs.Flat.{is_rising, is_later}
+use Rattle.minion_core.specs.Flat.{is_later}
 use Rattle.job_store.specs.Store.{StoredJob, stored_jobs, stored_outcome, with_job, with_row, with_return}
 use Rattle.job_store.specs.Tables.{ReturnTable, store_of, AreStored}
 use Rattle.job_store.proofs.Rising.{rising_push}

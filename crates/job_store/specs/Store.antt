@@ -5,6 +5,7 @@ use Rattle.std.specs.Map.{lookup}
 use Rattle.salt_value.specs.declared.outcome.Outcome.{Outcome}
 use Rattle.salt_value.specs.declared.outcome.Row.{Row}
 use Rattle.salt_wire.specs.declared.message.Job.{Job}
+use Rattle.minion_core.specs.Flat.{is_later}
 
 -- a job, and the outcome of each minion that returned it, in the order in which they came
 pub record StoredJob : Type 0 where
@@ -14,6 +15,10 @@ pub record StoredJob : Type 0 where
 -- the jobs of a store, in order
 abbrev pub stored_jobs : List StoredJob → List Job
 stored_jobs store = map (λ stored. stored.job) store
+
+-- a job is later than the last one of a store
+abbrev pub is_later_in : List StoredJob → Job → Bool
+is_later_in store job = is_later (stored_jobs store) job
 
 -- what this minion returned of a stored job
 abbrev pub outcome_in : List ℕ → StoredJob → Option Outcome

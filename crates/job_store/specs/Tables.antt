@@ -1,5 +1,6 @@
 -- What a store keeps: the jobs, and for each a table of its returns.
 use Rattle.std.specs.Prelude.{◌≡◌, ℕ, ◌<◌, ◌^◌, IsTrue, List, [], ◌∷◌, ◌++◌, length, map, zip}
+use Rattle.std.specs.declared.vec.Vec.{Vec}
 use Rattle.indexmap.specs.IndexMap.{IndexMap}
 use Rattle.salt_value.specs.declared.outcome.Outcome.{Outcome}
 use Rattle.salt_wire.specs.declared.message.Job.{Job}
@@ -28,6 +29,10 @@ pub record AreStored {S : Type 0} (jobs : List Job) (tables : List (ReturnTable 
 abbrev pub HasEmptyMore : {S : Type 0} → List (ReturnTable S) → List (ReturnTable S) → Type 0
 HasEmptyMore {S} old new = (table : ReturnTable S) × (new ≡ old ++ table ∷ []) × (table.entries ≡ [])
 
--- The store of the new jobs and tables has this job more than that of the old ones. No public contract cites it.
-abbrev pub HasJobMore : {S : Type 0} → Job → List Job → List (ReturnTable S) → List Job → List (ReturnTable S) → Type 0
-HasJobMore job jobs tables new_jobs new_tables = store_of new_jobs new_tables ≡ with_job job (store_of jobs tables)
+-- The new jobs and tables are a store with this job more than the old ones. No public contract cites it.
+abbrev pub HasJobMore : {S Z Y : Type 0} → Job → Vec Job Z → Vec (ReturnTable S) Y → Vec Job Z → Vec (ReturnTable S) Y → Type 0
+HasJobMore job jobs tables new_jobs new_tables = store_of new_jobs.items new_tables.items ≡ with_job job (store_of jobs.items tables.items)
+
+-- The new jobs and tables are the store that the old ones are. No public contract cites it.
+abbrev pub KeepsStore : {S Z Y : Type 0} → Vec Job Z → Vec (ReturnTable S) Y → Vec Job Z → Vec (ReturnTable S) Y → Type 0
+KeepsStore jobs tables new_jobs new_tables = store_of new_jobs.items new_tables.items ≡ store_of jobs.items tables.items

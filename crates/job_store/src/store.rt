@@ -1,12 +1,12 @@
 //! A store of jobs, and the calls on it.
-ghost use Rattle.std.specs.Prelude.{◌≡◌, ◌==◌, ◌↔◌, ◌<◌, ◌≤◌, ◌^◌, ◌∷◌, [], ◌++◌, not, IsTrue, None, Err, length, position, slice_get, bytes_eq, IfErr, OnOk, OnErr};
+ghost use Rattle.std.specs.Prelude.{◌≡◌, ◌==◌, ◌↔◌, ◌<◌, ◌≤◌, ◌^◌, ◌∷◌, [], ◌++◌, IsTrue, IsFalse, None, Err, length, position, slice_get, bytes_eq, OnOk, OnErr};
 ghost use Rattle.std.specs.Option.{option_copied};
 ghost use Rattle.indexmap.specs.IndexMap.{get};
 ghost use Rattle.minion_core.specs.Flat as flat;
-ghost use Rattle.job_store.specs.Store.{stored_jobs, stored_outcome, has_outcome, with_job, with_return};
-ghost use Rattle.job_store.specs.Tables.{AreStored, HasEmptyMore, HasJobMore, store_of};
-ghost use Rattle.job_store.specs.declared.faults.AddFault.TheVariants as AddFault;
-ghost use Rattle.job_store.specs.declared.faults.PutFault.TheVariants as PutFault;
+ghost use Rattle.job_store.specs.Store.{stored_jobs, stored_outcome, has_outcome, is_later_in, with_job, with_return};
+ghost use Rattle.job_store.specs.Tables.{AreStored, HasEmptyMore, HasJobMore, KeepsStore};
+ghost use Rattle.job_store.specs.declared.faults.AddFault.TheVariants.{NotLater};
+ghost use Rattle.job_store.specs.declared.faults.PutFault.TheVariants.{NoJob, Twice};
 
 use crate::{AddFault, PutFault};
 use indexmap::IndexMap;
@@ -59,7 +59,7 @@ impl JobStore {
         requires room { length self.old < 4_294_967_295 }
         ensures ok { OnOk result (self.new ≡ with_job job self.old) }
         ensures err { OnErr result (self.new ≡ self.old) }
-        ensures not_later { (result ≡ Err AddFault.NotLater) ↔ IsTrue (not (flat.is_later (stored_jobs self.old) job)) }
+        ensures not_later { (result ≡ Err NotLater) ↔ IsFalse (is_later_in self.old job) }
     {
         add_job(self.alloc, &mut self.jobs, &mut self.returns, job)
     }
@@ -69,8 +69,8 @@ impl JobStore {
     pub fn put(&mut self, seq: u32, row: Row) -> Result<(), PutFault>
         ensures ok { OnOk result (self.new ≡ with_return seq row self.old) }
         ensures err { OnErr result (self.new ≡ self.old) }
-        ensures no_job { (result ≡ Err PutFault.NoJob) ↔ (length self.old ≤ seq) }
-        ensures twice { (result ≡ Err PutFault.Twice) ↔ IsTrue (has_outcome self.old seq row.id) }
+        ensures no_job { (result ≡ Err NoJob) ↔ (length self.old ≤ seq) }
+        ensures twice { (result ≡ Err Twice) ↔ IsTrue (has_outcome self.old seq row.id) }
     {
         if self.count() <= seq {
             return Err(PutFault::NoJob);
@@ -169,27 +169,6 @@ fn push_both(
     }
 }
 
-// A later job and an empty table more, or neither.
-fn push_job(
-    alloc: Global,
-    jobs: &mut Vec<Job>,
-    tables: &mut Vec<IndexMap<MinionId, Outcome>>,
-    job: Job,
-) -> Result<(), AddFault>
-    requires stored { AreStored jobs.old.items tables.old.items }
-    requires room { length jobs.old.items < 4_294_967_295 }
-    requires later { IsTrue (flat.is_later jobs.old.items job) }
-    ensures ok { OnOk result (HasJobMore job jobs.old.items tables.old.items jobs.new.items tables.new.items) }
-    ensures err { OnErr result (store_of jobs.new.items tables.new.items ≡ store_of jobs.old.items tables.old.items) }
-    ensures stored { AreStored jobs.new.items tables.new.items }
-    ensures memory { IfErr result (λ fault. fault ≡ AddFault.NoMemory) }
-{
-    match push_both(alloc, jobs, tables, job) {
-        Ok(()) => Ok(()),
-        Err(_) => Err(AddFault::NoMemory),
-    }
-}
-
 // A job and an empty table more, where it is later than the last one.
 fn add_job(
     alloc: Global,
@@ -199,15 +178,18 @@ fn add_job(
 ) -> Result<(), AddFault>
     requires stored { AreStored jobs.old.items tables.old.items }
     requires room { length jobs.old.items < 4_294_967_295 }
-    ensures ok { OnOk result (HasJobMore job jobs.old.items tables.old.items jobs.new.items tables.new.items) }
-    ensures err { OnErr result (store_of jobs.new.items tables.new.items ≡ store_of jobs.old.items tables.old.items) }
-    ensures not_later { (result ≡ Err AddFault.NotLater) ↔ IsTrue (not (flat.is_later jobs.old.items job)) }
+    ensures ok { OnOk result (HasJobMore job jobs.old tables.old jobs.new tables.new) }
+    ensures err { OnErr result (KeepsStore jobs.old tables.old jobs.new tables.new) }
+    ensures not_later { (result ≡ Err NotLater) ↔ IsFalse (flat.is_later jobs.old.items job) }
     ensures stored { AreStored jobs.new.items tables.new.items }
 {
     if !is_later(jobs.as_slice(), &job) {
         return Err(AddFault::NotLater);
     }
-    push_job(alloc, jobs, tables, job)
+    match push_both(alloc, jobs, tables, job) {
+        Ok(()) => Ok(()),
+        Err(_) => Err(AddFault::NoMemory),
+    }
 }
 
 // A return of a minion that has none yet.

@@ -1,4 +1,4 @@
-use Rattle.std.proofs.Common.{◌≡◌, List, Some, None, ◌∙◌, ap, sym, slice_get, subst}
+use Rattle.std.proofs.Common.{Some, None, ◌∙◌, sym}
 use Rattle.job_store.proofs.Stores.{got, outcome_some, outcome_none}
 use Rattle.job_store.proofs.store.JobStore.outcome.Goals as goal
 

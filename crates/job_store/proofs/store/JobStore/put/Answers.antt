@@ -1,5 +1,4 @@
-use Rattle.std.proofs.Common.{◌≡◌, ◌<◌, ◌∙◌, sym, ap, refl, arith, length, slice_get, Some, List}
-use Rattle.std.proofs.lemmas.Grind.{common_steps}
+use Rattle.std.proofs.Common.{◌≡◌, ◌<◌, ◌∙◌, sym, refl, arith, length, slice_get, Some}
 use Rattle.std.proofs.lemmas.Option.{slice_get_read}
 use Rattle.job_store.proofs.Stores.{count_of, outcome_some, none_copied, return_more, return_kept}
 use Rattle.job_store.proofs.store.JobStore.put.Goals.{in-Ok, in-Err}
