@@ -55,12 +55,7 @@ fn add(rt: &impl Abort, alloc: Global, store: &mut JobStore, moment: u64) -> Opt
     store.add(job(rt, alloc, moment)).err()
 }
 
-fn adds(
-    rt: &impl Abort,
-    alloc: Global,
-    store: &mut JobStore,
-    rows: &[(u64, Option<AddFault>)],
-) {
+fn adds(rt: &impl Abort, alloc: Global, store: &mut JobStore, rows: &[(u64, Option<AddFault>)]) {
     for (moment, want) in rows {
         assert_eq!(rt; add(rt, alloc, store, *moment), *want, "at {moment}");
     }
@@ -93,11 +88,7 @@ fn has_numbers(rt: &impl Abort, store: &JobStore, rows: &[(u64, Option<u32>)]) {
     }
 }
 
-fn puts(
-    rt: &impl Abort,
-    store: &mut JobStore,
-    rows: &[(u32, &'static str, u8, Option<PutFault>)],
-) {
+fn puts(rt: &impl Abort, store: &mut JobStore, rows: &[(u32, &'static str, u8, Option<PutFault>)]) {
     for (seq, minion, retcode, want) in rows {
         let fault = store.put(*seq, row(rt, minion, *retcode)).err();
         assert_eq!(rt; fault, *want, "at {seq} {minion}");
@@ -114,7 +105,11 @@ fn retcode_of(rt: &impl Abort, store: &JobStore, seq: u32, minion: &str) -> Opti
 
 fn has_outcomes(rt: &impl Abort, store: &JobStore, rows: &[(u32, &'static str, Option<u8>)]) {
     for (seq, minion, want) in rows {
-        assert_eq!(rt; retcode_of(rt, store, *seq, minion), *want, "at {seq} {minion}");
+        assert_eq!(rt;
+            retcode_of(rt, store, *seq, minion),
+            *want,
+            "at {seq} {minion}"
+        );
     }
 }
 
