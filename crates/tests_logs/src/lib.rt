@@ -1,5 +1,0 @@
-//! Tests of up_logs, by its public calls alone.
-#![tactic(auto)]
-
-#[cfg(test)]
-mod logs;
