@@ -21,8 +21,8 @@ abbrev pub next_record : Job → List ℕ → CoreState → Deed
 next_record job id s = job_record s.jobs job id s.held
 
 -- the state with a job more, which changed this and has these entries
-abbrev pub with_job : Option Changed → List Entry → CoreState → CoreState
-with_job changed entries s = record { boots = s.boots; jobs = s.jobs + 1; held = held_with changed s.held; log = s.log ++ entries }
+abbrev pub with_job_run : Option Changed → List Entry → CoreState → CoreState
+with_job_run changed entries s = record { boots = s.boots; jobs = s.jobs + 1; held = held_with changed s.held; log = s.log ++ entries }
 
 -- the state after a record
 abbrev pub core_after : Deed → CoreState → CoreState
@@ -32,4 +32,4 @@ core_after (Fire event) s = s
 core_after (React items) s = s
 core_after (Intake job) s = s
 core_after Boot s = record { boots = s.boots + 1; jobs = s.jobs; held = s.held; log = s.log ++ Start (s.boots + 1) ∷ [] }
-core_after (Done seq changed entries) s = with_job changed entries s
+core_after (Done seq changed entries) s = with_job_run changed entries s

@@ -40,7 +40,7 @@ impl Model for MinionCore {
 }
 
 impl MinionCore {
-    ghost use Rattle.minion_core.specs.Core.{CoreState, next_record, with_job, core_after};
+    ghost use Rattle.minion_core.specs.Core.{CoreState, next_record, with_job_run, core_after};
     ghost use Rattle.minion_core.specs.Limits.{DeedFits, StateFits, HasRoom, HasFewEntries, ChangedFits};
     ghost use Rattle.minion_core.specs.Faults.{IsRunFault};
 
@@ -108,7 +108,7 @@ impl MinionCore {
         requires changed { ChangedFits changed.now }
         requires entries { All EntryFits entries.now }
         requires room { self.old.jobs + 1 < 2 ^ 32 }
-        ensures ok { OnOk result (self.new ≡ with_job changed.now entries.now self.old) }
+        ensures ok { OnOk result (self.new ≡ with_job_run changed.now entries.now self.old) }
         ensures err { OnErr result (self.new ≡ self.old) }
     {
         let new = copy_changed(self.alloc, changed)?;

@@ -67,8 +67,8 @@ order_tests max_jobs args tree held =
     ∷ (nat_lt held max_jobs, r.JobsFull max_jobs) ∷ []
 
 -- the jid after those of these jobs at a moment
-abbrev pub jid_after : ℕ → List Job → Result ℕ PublishRefusal
-jid_after moment jobs = ok_or (next_jid (last_jid jobs) moment) r.JidEnd
+abbrev pub jid_or_refusal : ℕ → List Job → Result ℕ PublishRefusal
+jid_or_refusal moment jobs = ok_or (next_jid (last_jid jobs) moment) r.JidEnd
 
 -- what comes next, unless a cause refuses it
 abbrev pub unless_refused : {A : Type 0} → Option PublishRefusal → Result A PublishRefusal → Result A PublishRefusal
@@ -78,7 +78,7 @@ unless_refused (Some cause) next = Err cause
 -- the jid of an order with these arguments and this target, or the first refusal
 abbrev pub order_jid : FleetConfig → ℕ → List Value → Target → List Job → Result ℕ PublishRefusal
 order_jid f moment args tree jobs =
-    unless_refused (first_cause (order_tests f.max_jobs args tree (length jobs))) (jid_after moment jobs)
+    unless_refused (first_cause (order_tests f.max_jobs args tree (length jobs))) (jid_or_refusal moment jobs)
 
 -- The job that an order makes at a moment where the top has these jobs, or the first cause for which it is refused.
 abbrev pub publication : FleetConfig → ℕ → Order → List Job → Result Job PublishRefusal
@@ -86,8 +86,8 @@ publication f moment o jobs =
     order_tree f.groups o >>= λ tree. order_jid f moment o.args tree jobs >>= λ jid. Ok (order_job o tree jid)
 
 -- an order makes this job
-abbrev pub IsPublication : FleetConfig → ℕ → Order → List Job → Job → Type 0
-IsPublication f moment o jobs job = publication f moment o jobs ≡ Ok job
+abbrev pub IsJobOfOrder : FleetConfig → ℕ → Order → List Job → Job → Type 0
+IsJobOfOrder f moment o jobs job = publication f moment o jobs ≡ Ok job
 
 -- A node published an order under this jid: it recorded the job.
 pub record Publishes (f : FleetConfig) (moment : ℕ) (o : Order) (before after : NodeState) (jid : ℕ) : Type 0 where

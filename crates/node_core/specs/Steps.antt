@@ -36,7 +36,7 @@ use Rattle.node_core.specs.declared.faults.Stray.{Stray}
 use Rattle.node_core.specs.declared.faults.Stray.TheVariants as stray
 use Rattle.node_core.specs.Node.{NodeState, run_tests, RunsBigPattern, first_tests, with_record, job_deed, after_message, after_pub, after_up, reply_answer, pubs_from, ups_from, pending_ups}
 use Rattle.node_core.specs.Node.Answer.{Reply}
-use Rattle.node_core.specs.Publications.{Order, order, order_jid, order_job, IsPublication, IsOrderFault}
+use Rattle.node_core.specs.Publications.{Order, order, order_jid, order_job, IsJobOfOrder, IsOrderFault}
 
 -- a refusal for a text that is no target, or want of memory
 abbrev pub order_fault : TargetFault → PublishFault
@@ -44,10 +44,10 @@ order_fault fault.NoMemory = f.NoMemory
 order_fault cause = f.Refused (r.Target cause)
 
 -- a part of a publication was refused as it says, or memory ran out
-abbrev pub IsRefusalOf : {A : Type 0} → Result A PublishRefusal → PublishFault → Type 0
-IsRefusalOf part (f.Refused cause) = part ≡ Err cause
-IsRefusalOf part (f.TooBig leaf) = ⊥
-IsRefusalOf part f.NoMemory = ⊤
+abbrev pub IsOrderRefusal : {A : Type 0} → Result A PublishRefusal → PublishFault → Type 0
+IsOrderRefusal part (f.Refused cause) = part ≡ Err cause
+IsOrderRefusal part (f.TooBig leaf) = ⊥
+IsOrderRefusal part f.NoMemory = ⊤
 
 -- a pattern of the target cannot be read, or is too big to match with, or memory ran out
 abbrev pub IsPatternFault : Target → PublishFault → Type 0
@@ -56,7 +56,7 @@ IsPatternFault tree (f.TooBig leaf) = NamesBigPattern tree leaf
 IsPatternFault tree f.NoMemory = ⊤
 
 -- arguments and target are within the limits of a job, and there is room for one more
-pub record HasRoom (args : List Value) (tree : Target) (jobs : List Job) : Type 0 where
+pub record HasJobRoom (args : List Value) (tree : Target) (jobs : List Job) : Type 0 where
   pub args_fit : ValueFits (v.List args)
   pub target_fits : TreeFits tree
   pub few : length jobs < most_jobs
@@ -151,7 +151,7 @@ IsJobOf o tree jid job = job ≡ order_job o tree jid
 
 -- the order of a text of this kind, a function and its arguments makes this job
 abbrev pub MakesJob : FleetConfig → ℕ → Kind → List ℕ → List ℕ → List Value → List Job → Job → Type 0
-MakesJob fleet moment kind tgt fun args jobs job = IsPublication fleet moment (order kind tgt fun args) jobs job
+MakesJob fleet moment kind tgt fun args jobs job = IsJobOfOrder fleet moment (order kind tgt fun args) jobs job
 
 -- this fault denies that order its job
 abbrev pub Denies : FleetConfig → ℕ → Kind → List ℕ → List ℕ → List Value → List Job → PublishFault → Type 0

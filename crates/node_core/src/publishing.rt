@@ -8,7 +8,7 @@ ghost use Rattle.salt_value.specs.declared.value.Value.TheVariants as v;
 ghost use Rattle.salt_wire.specs.Limits.{JobFits, TreeFits, most_target_bytes};
 ghost use Rattle.node_core.specs.Publications.{order, tree_of_text};
 ghost use Rattle.node_core.specs.Steps as step;
-ghost use Rattle.node_core.specs.Steps.{IsRefusalOf, IsPatternFault, IsJidFault, HasRoom, IsOrderJid, IsJobOf, MakesJob, Denies};
+ghost use Rattle.node_core.specs.Steps.{IsOrderRefusal, IsPatternFault, IsJidFault, HasJobRoom, IsOrderJid, IsJobOf, MakesJob, Denies};
 
 use crate::strays::last_jid;
 use crate::{PublishFault, PublishRefusal};
@@ -41,7 +41,7 @@ fn order_tree(
 ) -> Result<Boxed<Target>, PublishFault>
     ensures ok { IfOk result (λ tree. machine_tree kind groups.now tgt.now ≡ Ok tree) }
     ensures short { OnOk result (length tgt.now ≤ most_target_bytes) }
-    ensures fault { IfErr result (IsRefusalOf (tree_of_text kind groups.now tgt.now)) }
+    ensures fault { IfErr result (IsOrderRefusal (tree_of_text kind groups.now tgt.now)) }
 {
     match read_target(alloc, kind, tgt, groups) {
         Ok(tree) => Ok(Boxed::new(alloc, tree)?),
@@ -74,7 +74,7 @@ fn order_jid(
     jobs: &[Job],
 ) -> Result<Jid, PublishFault>
     ensures ok { IfOk result (IsOrderJid fleet.now moment args.now tree.now jobs.now) }
-    ensures room { OnOk result (HasRoom args.now tree.now jobs.now) }
+    ensures room { OnOk result (HasJobRoom args.now tree.now jobs.now) }
     ensures fault { IfErr result (IsJidFault fleet.now moment args.now tree.now jobs.now) }
 {
     read_patterns(alloc, tree)?;

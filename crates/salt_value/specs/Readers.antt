@@ -16,9 +16,9 @@ abbrev pub when : {A F : Type 0} → Bool → F → A → Result A F
 when rule f x = if rule then Ok x else Err f
 
 -- what was read, if there is such a thing
-abbrev pub found : {A F : Type 0} → F → Option A → List ℕ → Result (A × List ℕ) F
-found f None rest = Err f
-found f (Some x) rest = Ok (x, rest)
+abbrev pub option_reader : {A F : Type 0} → F → Option A → List ℕ → Result (A × List ℕ) F
+option_reader f None rest = Err f
+option_reader f (Some x) rest = Ok (x, rest)
 
 -- so many of them, one after the other
 unfoldable pub several : {F A : Type 0} → Reader F A → ℕ → Reader F (List A)

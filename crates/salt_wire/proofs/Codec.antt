@@ -4,7 +4,7 @@ use Rattle.std.specs.Int.{Width, w8, w16, w32, w64, byte_len, to_be_bytes}
 use Rattle.std.specs.List.{list_all}
 use Rattle.std.proofs.lemmas.Bool.{ltb-false, le-ltb, leb-true, le-leb}
 use Rattle.std.proofs.lemmas.List.{take_at, drop_at, take-append-drop, length-take}
-use Rattle.salt_value.specs.Readers.{◌>>=◌, Reader, when, found}
+use Rattle.salt_value.specs.Readers.{◌>>=◌, Reader, when, option_reader}
 use Rattle.salt_value.specs.Id.{IsId, is_id_byte}
 use Rattle.salt_value.specs.Word.{IsWord, is_word_byte}
 use Rattle.salt_value.specs.Jid.{greatest_jid}
@@ -22,7 +22,7 @@ use Rattle.target_tree.specs.declared.kind.Kind.TheVariants as k
 use Rattle.salt_wire.specs.declared.fault.Misread.{Misread}
 use Rattle.salt_wire.specs.Spelling.{number, id, word}
 use Rattle.salt_wire.specs.Limits.{is_id, IsNumber, IsText}
-use Rattle.salt_wire.specs.Decoding.{misread, byte_field, number_field, text_field, short_text, counted_or, is_word, id_or, id_field, word_field, jid_field, kind_of, kind_field, value_or, value_field, items_layer, value_items, items_field, pairs_layer, value_pairs, fields_field}
+use Rattle.salt_wire.specs.Decoding.{misreading, byte_field, number_field, text_field, short_text, counted_or, is_word, id_or, id_field, word_field, jid_field, kind_of, kind_field, value_or, value_field, items_layer, value_items, items_field, pairs_layer, value_pairs, fields_field}
 use Rattle.salt_wire.specs.RoundTrip.{Took, IsReadBack}
 use Rattle.salt_wire.proofs.FieldLemmas.{kind_of-code, kind_of-is}
 use Rattle.salt_wire.proofs.WriteLemmas.{both_true}
@@ -50,7 +50,7 @@ pub when_ok : {A F : Type 0} (b : Bool) (f : F) (x y : A) → when b f x ≡ Ok 
 when_ok true f x y e = (refl, cc)
 when_ok false f x y e = absurd cc
 
-pub found_ok : {A F : Type 0} (f : F) (o : Option A) (rest : List ℕ) (y : A × List ℕ) → found f o rest ≡ Ok y → (a : A) × (o ≡ Some a) × ((a, rest) ≡ y)
+pub found_ok : {A F : Type 0} (f : F) (o : Option A) (rest : List ℕ) (y : A × List ℕ) → option_reader f o rest ≡ Ok y → (a : A) × (o ≡ Some a) × ((a, rest) ≡ y)
 found_ok f None rest y e = absurd cc
 found_ok f (Some a) rest y e = (a, refl, cc)
 
@@ -149,29 +149,29 @@ IsShortText most t = IsText t × (length t ≤ most)
 module _ (l : Lower) where
   pub numbers : IsReadBack number IsNumber number_field
   numbers = record {
-    written = λ n rest h. l.numbers_written w32 (misread (number n ++ rest)) n rest (omega arith) h;
-    took = λ b x h e. l.numbers_read w32 (misread b) b x.0 x.1 (omega arith) h e;
+    written = λ n rest h. l.numbers_written w32 (misreading (number n ++ rest)) n rest (omega arith) h;
+    took = λ b x h e. l.numbers_read w32 (misreading b) b x.0 x.1 (omega arith) h e;
   }
 
   pub a_byte : IsReadBack one_byte IsByte byte_field
   a_byte = record {
-    written = λ n rest h. ap (λ (s : List ℕ). byte_field (s ++ rest)) (sym (byte_is n h)) ∙ l.numbers_written w8 (misread (to_be_bytes w8 n ++ rest)) n rest (omega arith) h;
-    took = λ b x h e. let t = l.numbers_read w8 (misread b) b x.0 x.1 (omega arith) h e in (t.0, t.1 ∙ ap (λ (s : List ℕ). s ++ x.1) (byte_is x.0 t.0), t.2);
+    written = λ n rest h. ap (λ (s : List ℕ). byte_field (s ++ rest)) (sym (byte_is n h)) ∙ l.numbers_written w8 (misreading (to_be_bytes w8 n ++ rest)) n rest (omega arith) h;
+    took = λ b x h e. let t = l.numbers_read w8 (misreading b) b x.0 x.1 (omega arith) h e in (t.0, t.1 ∙ ap (λ (s : List ℕ). s ++ x.1) (byte_is x.0 t.0), t.2);
   }
 
   pub texts : IsReadBack text IsText text_field
   texts = record {
-    written = λ t rest h. l.texts_written (misread (text t ++ rest)) (misread (text t ++ rest)) t rest h;
-    took = λ b x h e. l.texts_read (misread b) (misread b) b x.0 x.1 h e;
+    written = λ t rest h. l.texts_written (misreading (text t ++ rest)) (misreading (text t ++ rest)) t rest h;
+    took = λ b x h e. l.texts_read (misreading b) (misreading b) b x.0 x.1 h e;
   }
 
   pub short_texts : (most : ℕ) → IsReadBack text (IsShortText most) (short_text most)
   short_texts most = record {
-    written = λ t rest h. rw (l.texts_written (misread (text t ++ rest)) (misread (text t ++ rest)) t rest h.0, le-leb (length t) most h.1) refl;
+    written = λ t rest h. rw (l.texts_written (misreading (text t ++ rest)) (misreading (text t ++ rest)) t rest h.0, le-leb (length t) most h.1) refl;
     took = λ b x h e.
-        let a = bind_ok (text_field b) (λ t. when (leb (length t.0) most) (misread b) t) x e in
-        let w = when_ok (leb (length a.0.0) most) (misread b) a.0 x a.2 in
-        let t = l.texts_read (misread b) (misread b) b a.0.0 a.0.1 h a.1 in
+        let a = bind_ok (text_field b) (λ t. when (leb (length t.0) most) (misreading b) t) x e in
+        let w = when_ok (leb (length a.0.0) most) (misreading b) a.0 x a.2 in
+        let t = l.texts_read (misreading b) (misreading b) b a.0.0 a.0.1 h a.1 in
         subst (λ (y : List ℕ × List ℕ). Took text (IsShortText most) b y) w.1 ((t.0, leb-true _ _ w.0), t.1, t.2);
   }
 
@@ -228,24 +228,24 @@ module _ (l : Lower) where
 
   pub ids : IsReadBack id IsId id_field
   ids = record {
-    written = λ x rest h. (ids_or (misread (id x ++ rest))).written x rest h;
-    took = λ b x h e. (ids_or (misread b)).took b x h e;
+    written = λ x rest h. (ids_or (misreading (id x ++ rest))).written x rest h;
+    took = λ b x h e. (ids_or (misreading b)).took b x h e;
   }
 
   pub words : IsReadBack word IsWord word_field
   words = record {
-    written = λ x rest h. counted_written (misread (word x ++ rest)) w16 is_word x rest (omega arith) (omega (arith, h.1)) (IsWord-is_word x h);
-    took = λ b x h e. let t = counted_took (misread b) w16 is_word b x (omega arith) h e in (is_word-IsWord x.0 t.passes, t.parts, t.are_bytes);
+    written = λ x rest h. counted_written (misreading (word x ++ rest)) w16 is_word x rest (omega arith) (omega (arith, h.1)) (IsWord-is_word x h);
+    took = λ b x h e. let t = counted_took (misreading b) w16 is_word b x (omega arith) h e in (is_word-IsWord x.0 t.passes, t.parts, t.are_bytes);
   }
 
   pub jids : IsReadBack micros IsJid jid_field
   unfolding jid_field
   jids = record {
-    written = λ j rest h. rw (l.numbers_written w64 (misread (to_be_bytes w64 j ++ rest)) j rest (omega arith) (omega (arith, h)), le-leb j greatest_jid h) refl;
+    written = λ j rest h. rw (l.numbers_written w64 (misreading (to_be_bytes w64 j ++ rest)) j rest (omega arith) (omega (arith, h)), le-leb j greatest_jid h) refl;
     took = λ b x h e.
-        let a = bind_ok (number_or w64 (misread b) b) (λ n. when (leb n.0 greatest_jid) (misread b) n) x e in
-        let w = when_ok (leb a.0.0 greatest_jid) (misread b) a.0 x a.2 in
-        let t = l.numbers_read w64 (misread b) b a.0.0 a.0.1 (omega arith) h a.1 in
+        let a = bind_ok (number_or w64 (misreading b) b) (λ n. when (leb n.0 greatest_jid) (misreading b) n) x e in
+        let w = when_ok (leb a.0.0 greatest_jid) (misreading b) a.0 x a.2 in
+        let t = l.numbers_read w64 (misreading b) b a.0.0 a.0.1 (omega arith) h a.1 in
         subst (λ (y : ℕ × List ℕ). Took micros IsJid b y) w.1 (leb-true _ _ w.0, t.1, t.2);
   }
 
@@ -265,8 +265,8 @@ module _ (l : Lower) where
   kinds = record {
     written = λ kind rest h. rw (a_byte.written (kind_code kind) rest (code_below kind), kind_of-code kind) refl;
     took = λ b x h e.
-        let a = bind_ok (byte_field b) (λ code. found (misread b) (kind_of code.0) code.1) x e in
-        let f = found_ok (misread b) (kind_of a.0.0) a.0.1 x a.2 in
+        let a = bind_ok (byte_field b) (λ code. option_reader (misreading b) (kind_of code.0) code.1) x e in
+        let f = found_ok (misreading b) (kind_of a.0.0) a.0.1 x a.2 in
         let t = a_byte.took b a.0 h a.1 in
         subst (λ (y : Kind × List ℕ). Took code AnyKind b y) f.2
         (tt, t.1 ∙ ap (λ n. n ∷ a.0.1) (sym (kind_of-is a.0.0 f.0 f.1)), t.2);
@@ -305,8 +305,8 @@ module _ (l : Lower) where
   lists = record {
     written = λ xs rest h. rw (values.written (v.List xs) rest h, items_of-List xs) refl;
     took = λ b x h e.
-        let a = bind_ok (value_field b) (λ value. found (misread b) (value_items value.0) value.1) x e in
-        let f = found_ok (misread b) (value_items a.0.0) a.0.1 x a.2 in
+        let a = bind_ok (value_field b) (λ value. option_reader (misreading b) (value_items value.0) value.1) x e in
+        let f = found_ok (misreading b) (value_items a.0.0) a.0.1 x a.2 in
         let t = values.took b a.0 h a.1 in
         let same : a.0.0 ≡ v.List f.0 = sym (roll-out-Value a.0.0) ∙ items_layer-is (out-Value a.0.0) f.0 f.1 in
         subst (λ (y : List Value × List ℕ). Took list_bytes ListFits b y) f.2 (subst ValueFits same t.0, t.1 ∙ ap (λ (w : Value). bytes w ++ a.0.1) same, t.2);
@@ -328,8 +328,8 @@ module _ (l : Lower) where
   maps = record {
     written = λ ps rest h. rw (values.written (v.Map ps) rest h, pairs_of-Map ps) refl;
     took = λ b x h e.
-        let a = bind_ok (value_field b) (λ value. found (misread b) (value_pairs value.0) value.1) x e in
-        let f = found_ok (misread b) (value_pairs a.0.0) a.0.1 x a.2 in
+        let a = bind_ok (value_field b) (λ value. option_reader (misreading b) (value_pairs value.0) value.1) x e in
+        let f = found_ok (misreading b) (value_pairs a.0.0) a.0.1 x a.2 in
         let t = values.took b a.0 h a.1 in
         let same : a.0.0 ≡ v.Map f.0 = sym (roll-out-Value a.0.0) ∙ pairs_layer-is (out-Value a.0.0) f.0 f.1 in
         subst (λ (y : List (List ℕ × Value) × List ℕ). Took map_bytes MapFits b y) f.2 (subst ValueFits same t.0, t.1 ∙ ap (λ (w : Value). bytes w ++ a.0.1) same, t.2);

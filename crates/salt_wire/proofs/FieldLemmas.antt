@@ -7,13 +7,13 @@ use Rattle.std.proofs.lemmas.Str.Ascii.{IsAscii-from_all}
 use Rattle.std.proofs.lemmas.List.Elements.{All-nil, All-cons}
 use Rattle.std.proofs.lemmas.Bool.Decides.{nat_tests}
 use Rattle.std.proofs.lemmas.Bool.{eqb-true}
-use Rattle.salt_value.specs.Readers.{◌>>=◌, found}
+use Rattle.salt_value.specs.Readers.{◌>>=◌, option_reader}
 use Rattle.salt_value.specs.Word.{is_word_byte}
 use Rattle.target_tree.specs.Kinds.{TheKind, kind_code}
 use Rattle.target_tree.specs.declared.kind.Kind.{Kind}
 use Rattle.target_tree.specs.declared.kind.Kind.TheVariants as k
 use Rattle.salt_wire.specs.declared.fault.Misread.{Misread}
-use Rattle.salt_wire.specs.Decoding.{is_word, misread, byte_field, kinds, kind_of, kind_field}
+use Rattle.salt_wire.specs.Decoding.{is_word, misreading, byte_field, kinds, kind_of, kind_field}
 
 and_first : (a b : Bool) → (a && b) ≡ true → a ≡ true
 and_first a b e = grind arith
@@ -68,7 +68,7 @@ the_kind code None h = by (kind_of code) refl where
 the_kind code (Some kind) h = subst (λ c. Some kind ≡ kind_of c) h.0 (sym (kind_of-code kind))
 
 -- the kind that the table has for a byte is what is read
-pub kind_read : (bytes rest : List ℕ) (code : ℕ) (r : Option Kind) → byte_field bytes ≡ Ok (code, rest) → TheKind (λ kind. kind_code kind ≡ code) r → kind_field bytes ≡ found (misread bytes) r rest
+pub kind_read : (bytes rest : List ℕ) (code : ℕ) (r : Option Kind) → byte_field bytes ≡ Ok (code, rest) → TheKind (λ kind. kind_code kind ≡ code) r → kind_field bytes ≡ option_reader (misreading bytes) r rest
 unfolding kind_field
 kind_read bytes rest code r e h =
-    ap (λ (read : Result (ℕ × List ℕ) Misread). read >>= λ code. found (misread bytes) (kind_of code.0) code.1) e ∙ ap (λ (kind : Option Kind). found (misread bytes) kind rest) (sym (the_kind code r h))
+    ap (λ (read : Result (ℕ × List ℕ) Misread). read >>= λ code. option_reader (misreading bytes) (kind_of code.0) code.1) e ∙ ap (λ (kind : Option Kind). option_reader (misreading bytes) kind rest) (sym (the_kind code r h))

@@ -3,7 +3,7 @@ use Rattle.std.proofs.Common.{◌≡◌, ◌⊎◌, inl, inr, ℕ, zero, suc, �
 use Rattle.std.specs.Prelude.{IfErr, ◌≢◌}
 use Rattle.std.specs.Int.{Width, w8, w16, w32, w64}
 use Rattle.std.proofs.lemmas.Bool.{eqb-true, eqb-false, ne_eqb}
-use Rattle.salt_value.specs.Readers.{◌>>=◌, Reader, found, Answers}
+use Rattle.salt_value.specs.Readers.{◌>>=◌, Reader, option_reader, Answers}
 use Rattle.salt_value.specs.Id.{IsId}
 use Rattle.salt_value.specs.Word.{IsWord}
 use Rattle.salt_value.specs.Spelling.{bytes, text}
@@ -21,7 +21,7 @@ use Rattle.salt_wire.specs.declared.message.Message.{Message}
 use Rattle.salt_wire.specs.declared.message.Message.TheVariants as m
 use Rattle.salt_wire.specs.Spelling.{number, id, word, tree_bytes, entry, kind_and_fields as spelled}
 use Rattle.salt_wire.specs.Limits.{is_id, IsNumber, IsText, TreeFits, EntryFits, Within}
-use Rattle.salt_wire.specs.Decoding.{misread, byte_field, number_field, text_field, short_text, counted_or, is_word, id_field, word_field, jid_field, kind_field, value_or, value_field, items_field, fields_field, return_at, fired_at, start_at, mine_at, entry_after, entry_field, tree_field, job_field, pub_fields, have_fields, up_fields, up_have_fields, hello_fields, ask_publish_fields, ask_report_fields, ask_mine_fields, status_field, answer_fields, client_fields, message_fields, kind_and_fields, nothing_after, message_at, wire_fault, body_answer, decoding}
+use Rattle.salt_wire.specs.Decoding.{misreading, byte_field, number_field, text_field, short_text, counted_or, is_word, id_field, word_field, jid_field, kind_field, value_or, value_field, items_field, fields_field, return_at, fired_at, start_at, mine_at, entry_after, entry_field, tree_field, job_field, pub_fields, have_fields, up_fields, up_have_fields, hello_fields, ask_publish_fields, ask_report_fields, ask_mine_fields, status_field, answer_fields, client_fields, message_fields, kind_and_fields, nothing_after, message_at, wire_fault, body_answer, decoding}
 use Rattle.salt_wire.specs.RoundTrip.{IsReadBack}
 use Rattle.salt_wire.specs.FirstFault.{IsTold, Field, Number, Byte, Status, Jid, Id, Word, Text, ShortText, TargetKind, Tree, AnyValue, Items, Pairs, Entry, is_kind, fields, job_fields, is_tag, entry_fields, HasSpelling, IsRight, Wrong, NoneStands, FirstWrong, EntryWrong, TreeWrong, FieldWrong, FirstFault}
 use Rattle.salt_wire.proofs.Codec.{Lower, one_byte, IsByte, code, AnyKind, micros, IsJid, list_bytes, ListFits, map_bytes, MapFits, IsShortText, numbers, a_byte, texts, short_texts, ids, words, jids, kinds, values, lists, maps}
@@ -71,7 +71,7 @@ pub text_only : (f : Misread) (b : List ℕ) → Only f (text_or f f b)
 unfolding text_or
 text_only f b = both f _ _ (number_only w32 f b) (λ x. test f _ _ _ fault (test f _ _ _ good fault))
 
-found_only : {A : Type 0} (f : Misread) (o : Option A) (rest : List ℕ) → Only f (found f o rest)
+found_only : {A : Type 0} (f : Misread) (o : Option A) (rest : List ℕ) → Only f (option_reader f o rest)
 found_only f None rest = fault
 found_only f (Some x) rest = good
 
@@ -79,41 +79,41 @@ pub counted_only : (f : Misread) (w : Width) (t : List ℕ → Bool) (b : List �
 unfolding counted_or
 counted_only f w t b = both f _ _ (number_only w f b) (λ x. test f _ _ _ fault (test f _ _ _ good fault))
 
-short_only : (most : ℕ) (b : List ℕ) → Only (misread b) (short_text most b)
-short_only most b = both (misread b) _ _ (text_only (misread b) b) (λ t. test (misread b) _ _ _ good fault)
+short_only : (most : ℕ) (b : List ℕ) → Only (misreading b) (short_text most b)
+short_only most b = both (misreading b) _ _ (text_only (misreading b) b) (λ t. test (misreading b) _ _ _ good fault)
 
-jid_only : (b : List ℕ) → Only (misread b) (jid_field b)
+jid_only : (b : List ℕ) → Only (misreading b) (jid_field b)
 unfolding jid_field
-jid_only b = both (misread b) _ _ (number_only w64 (misread b) b) (λ n. test (misread b) _ _ _ good fault)
+jid_only b = both (misreading b) _ _ (number_only w64 (misreading b) b) (λ n. test (misreading b) _ _ _ good fault)
 
-status_only : (b : List ℕ) → Only (misread b) (status_field b)
+status_only : (b : List ℕ) → Only (misreading b) (status_field b)
 unfolding status_field
-status_only b = both (misread b) _ _ (number_only w8 (misread b) b) (λ n. test (misread b) _ _ _ good fault)
+status_only b = both (misreading b) _ _ (number_only w8 (misreading b) b) (λ n. test (misreading b) _ _ _ good fault)
 
-kind_only : (b : List ℕ) → Only (misread b) (kind_field b)
+kind_only : (b : List ℕ) → Only (misreading b) (kind_field b)
 unfolding kind_field
-kind_only b = both (misread b) _ _ (number_only w8 (misread b) b) (λ n. found_only (misread b) _ _)
+kind_only b = both (misreading b) _ _ (number_only w8 (misreading b) b) (λ n. found_only (misreading b) _ _)
 
-value_of : (b : List ℕ) (r : Result (Value × ℕ) ValueFault) → Only (misread b) (value_or b r)
+value_of : (b : List ℕ) (r : Result (Value × ℕ) ValueFault) → Only (misreading b) (value_or b r)
 value_of b (Ok x) = good
 value_of b (Err f) = fault
 
-value_only : (b : List ℕ) → Only (misread b) (value_field b)
+value_only : (b : List ℕ) → Only (misreading b) (value_field b)
 unfolding value_field
 value_only b = value_of b (read_at b)
 
-items_only : (b : List ℕ) → Only (misread b) (items_field b)
+items_only : (b : List ℕ) → Only (misreading b) (items_field b)
 unfolding items_field
-items_only b = both (misread b) _ _ (value_only b) (λ n. found_only (misread b) _ _)
+items_only b = both (misreading b) _ _ (value_only b) (λ n. found_only (misreading b) _ _)
 
-pairs_only : (b : List ℕ) → Only (misread b) (fields_field b)
+pairs_only : (b : List ℕ) → Only (misreading b) (fields_field b)
 unfolding fields_field
-pairs_only b = both (misread b) _ _ (value_only b) (λ n. found_only (misread b) _ _)
+pairs_only b = both (misreading b) _ _ (value_only b) (λ n. found_only (misreading b) _ _)
 
 -- ---- a reader and where bytes are wrong for it
 
 -- a field that is told at its first byte
-pub at_front : {A : Type 0} (spell : A → List ℕ) (Right : A → Type 0) (read : Reader Misread A) → IsReadBack spell Right read → ((b : List ℕ) → Only (misread b) (read b)) → IsTold (NoneStands (HasSpelling spell Right)) read
+pub at_front : {A : Type 0} (spell : A → List ℕ) (Right : A → Type 0) (read : Reader Misread A) → IsReadBack spell Right read → ((b : List ℕ) → Only (misreading b) (read b)) → IsTold (NoneStands (HasSpelling spell Right)) read
 at_front {A} spell Right read law only = record { met = met; first = first } where
   met : (b : List ℕ) (e : Misread) → IsBytes b → read b ≡ Err e → (at : List ℕ) × NoneStands (HasSpelling spell Right) b at × (e ≡ BadField (length at))
   met b e h q = (
@@ -191,7 +191,7 @@ Plain f = NoneStands (IsRight f)
 abbrev Then : Field → Wrong → Wrong
 Then f more = Chained (Plain f) (IsRight f) more
 
-plain : {A C : Type 0} (spell : A → List ℕ) (Right : A → Type 0) (read : Reader Misread A) → IsReadBack spell Right read → ((b : List ℕ) → Only (misread b) (read b)) → (more : Wrong) (next : A × List ℕ → Result (C × List ℕ) Misread)
+plain : {A C : Type 0} (spell : A → List ℕ) (Right : A → Type 0) (read : Reader Misread A) → IsReadBack spell Right read → ((b : List ℕ) → Only (misreading b) (read b)) → (more : Wrong) (next : A × List ℕ → Result (C × List ℕ) Misread)
     → ((x : A) → IsTold more (λ b. next (x, b))) → IsTold (Chained (NoneStands (HasSpelling spell Right)) (HasSpelling spell Right) more) (λ b. read b >>= next)
 plain spell Right read law only more next others = chain spell Right read (NoneStands (HasSpelling spell Right)) more next law (at_front spell Right read law only) others
 
@@ -208,10 +208,10 @@ tails x y xs ys e = cc
 
 module _ (l : Lower) (trees : IsReadBack tree_bytes TreeFits tree_field) (tree_told : IsTold TreeWrong tree_field) where
   after_number : {C : Type 0} (more : Wrong) (next : ℕ × List ℕ → Result (C × List ℕ) Misread) → ((x : ℕ) → IsTold more (λ b. next (x, b))) → IsTold (Then Number more) (λ b. number_field b >>= next)
-  after_number = plain number IsNumber number_field (numbers l) (λ b. number_only w32 (misread b) b)
+  after_number = plain number IsNumber number_field (numbers l) (λ b. number_only w32 (misreading b) b)
 
   after_byte : {C : Type 0} (more : Wrong) (next : ℕ × List ℕ → Result (C × List ℕ) Misread) → ((x : ℕ) → IsTold more (λ b. next (x, b))) → IsTold (Then Byte more) (λ b. byte_field b >>= next)
-  after_byte = plain one_byte IsByte byte_field (a_byte l) (λ b. number_only w8 (misread b) b)
+  after_byte = plain one_byte IsByte byte_field (a_byte l) (λ b. number_only w8 (misreading b) b)
 
   after_status : {C : Type 0} (more : Wrong) (next : ℕ × List ℕ → Result (C × List ℕ) Misread) → ((x : ℕ) → IsTold more (λ b. next (x, b))) → IsTold (Then Status more) (λ b. status_field b >>= next)
   after_status = plain one_byte (IsStatus l trees) status_field (statuses l trees) status_only
@@ -220,13 +220,13 @@ module _ (l : Lower) (trees : IsReadBack tree_bytes TreeFits tree_field) (tree_t
   after_jid = plain micros IsJid jid_field (jids l) jid_only
 
   after_id : {C : Type 0} (more : Wrong) (next : List ℕ × List ℕ → Result (C × List ℕ) Misread) → ((x : List ℕ) → IsTold more (λ b. next (x, b))) → IsTold (Then Id more) (λ b. id_field b >>= next)
-  after_id = plain id IsId id_field (ids l) (λ b. counted_only (misread b) w8 is_id b)
+  after_id = plain id IsId id_field (ids l) (λ b. counted_only (misreading b) w8 is_id b)
 
   after_word : {C : Type 0} (more : Wrong) (next : List ℕ × List ℕ → Result (C × List ℕ) Misread) → ((x : List ℕ) → IsTold more (λ b. next (x, b))) → IsTold (Then Word more) (λ b. word_field b >>= next)
-  after_word = plain word IsWord word_field (words l) (λ b. counted_only (misread b) w16 is_word b)
+  after_word = plain word IsWord word_field (words l) (λ b. counted_only (misreading b) w16 is_word b)
 
   after_text : {C : Type 0} (more : Wrong) (next : List ℕ × List ℕ → Result (C × List ℕ) Misread) → ((x : List ℕ) → IsTold more (λ b. next (x, b))) → IsTold (Then Text more) (λ b. text_field b >>= next)
-  after_text = plain text IsText text_field (texts l) (λ b. text_only (misread b) b)
+  after_text = plain text IsText text_field (texts l) (λ b. text_only (misreading b) b)
 
   after_short : {C : Type 0} (most : ℕ) (more : Wrong) (next : List ℕ × List ℕ → Result (C × List ℕ) Misread) → ((x : List ℕ) → IsTold more (λ b. next (x, b))) → IsTold (Then (ShortText most) more) (λ b. short_text most b >>= next)
   after_short most = plain text (IsShortText most) (short_text most) (short_texts l most) (short_only most)
@@ -286,7 +286,7 @@ module _ (l : Lower) (trees : IsReadBack tree_bytes TreeFits tree_field) (tree_t
   unfolding entry_field
   entry_met b e h q =
       elim (bind_err (byte_field b) then_fields e q) [
-        | inl p ↦ (b, inl (refl, λ front rest t parts. never (t.0, rest) e (sym (byte_again b t.0 rest h (parts ∙ ap (λ (s : List ℕ). s ++ rest) t.2)) ∙ p)), (number_only w8 (misread b) b).is e p)
+        | inl p ↦ (b, inl (refl, λ front rest t parts. never (t.0, rest) e (sym (byte_again b t.0 rest h (parts ∙ ap (λ (s : List ℕ). s ++ rest) t.2)) ∙ p)), (number_only w8 (misreading b) b).is e p)
         | inr p ↦ by p.0 p.1 p.2 (is_tag p.0.0) refl
       ] where
         by : (x : ℕ × List ℕ) → byte_field b ≡ Ok x → entry_after x.0 x.1 ≡ Err e → (c : Bool) → is_tag x.0 ≡ c → (at : List ℕ) × EntryWrong b at × (e ≡ BadField (length at))
@@ -311,7 +311,7 @@ module _ (l : Lower) (trees : IsReadBack tree_bytes TreeFits tree_field) (tree_t
 
     by : (r : Result (ℕ × List ℕ) Misread) → byte_field b ≡ r → (byte_field b >>= then_fields) ≡ Err (BadField (length at))
     by (Ok x) q = ap (λ s. s >>= then_fields) q ∙ known x q (is_tag x.0) refl
-    by (Err e) q = ap (λ s. s >>= then_fields) q ∙ ap (λ f. Err f) ((number_only w8 (misread b) b).is e q ∙ ap (λ (s : List ℕ). BadField (length s)) (sym w.0))
+    by (Err e) q = ap (λ s. s >>= then_fields) q ∙ ap (λ f. Err f) ((number_only w8 (misreading b) b).is e q ∙ ap (λ (s : List ℕ). BadField (length s)) (sym w.0))
   entry_first b at h (inr w) = ap (λ s. s >>= then_fields) (byte_again b w.0 w.1 h w.2) ∙ by (is_tag w.0) refl where
     by : (c : Bool) → is_tag w.0 ≡ c → entry_after w.0 w.1 ≡ Err (BadField (length at))
     by true c = ((tag_row w.0).told c).first w.1 at (IsBytes-rest w.0 w.1 (subst IsBytes w.2 h)) w.3
@@ -323,10 +323,10 @@ module _ (l : Lower) (trees : IsReadBack tree_bytes TreeFits tree_field) (tree_t
   -- ---- the fields of messages
 
   pub id_told : IsTold (FieldWrong Id) id_field
-  id_told = at_front id IsId id_field (ids l) (λ b. counted_only (misread b) w8 is_id b)
+  id_told = at_front id IsId id_field (ids l) (λ b. counted_only (misreading b) w8 is_id b)
 
   pub word_told : IsTold (FieldWrong Word) word_field
-  word_told = at_front word IsWord word_field (words l) (λ b. counted_only (misread b) w16 is_word b)
+  word_told = at_front word IsWord word_field (words l) (λ b. counted_only (misreading b) w16 is_word b)
 
   pub job_told : IsTold (FirstWrong FieldWrong job_fields) job_field
   unfolding job_field

@@ -20,7 +20,7 @@ use Rattle.salt_wire.specs.declared.message.Message.{Message}
 use Rattle.salt_wire.specs.declared.message.Message.TheVariants as m
 use Rattle.salt_wire.specs.Spelling.{number, id, word, tree_bytes, job, entry, kind_and_fields as spelled}
 use Rattle.salt_wire.specs.Limits.{IsNumber, IsText, TreeFits, JobFits, EntryFits, is_status, Within}
-use Rattle.salt_wire.specs.Decoding.{misread, byte_field, number_field, text_field, short_text, id_field, word_field, jid_field, kind_field, value_field, items_field, fields_field, return_at, fired_at, start_at, mine_at, entry_after, entry_field, tree_field, job_field, pub_fields, have_fields, up_fields, up_have_fields, hello_fields, ask_publish_fields, ask_report_fields, ask_mine_fields, status_field, answer_fields, client_fields, message_fields, kind_and_fields}
+use Rattle.salt_wire.specs.Decoding.{misreading, byte_field, number_field, text_field, short_text, id_field, word_field, jid_field, kind_field, value_field, items_field, fields_field, return_at, fired_at, start_at, mine_at, entry_after, entry_field, tree_field, job_field, pub_fields, have_fields, up_fields, up_have_fields, hello_fields, ask_publish_fields, ask_report_fields, ask_mine_fields, status_field, answer_fields, client_fields, message_fields, kind_and_fields}
 use Rattle.salt_wire.specs.RoundTrip.{Took, IsReadBack}
 use Rattle.salt_wire.proofs.Codec.{Lower, one_byte, IsByte, code, AnyKind, micros, IsJid, list_bytes, ListFits, map_bytes, MapFits, IsShortText, bind_ok, ok_is, when_ok, join, step, again, again_last, numbers, a_byte, texts, short_texts, ids, words, jids, kinds, values, lists, maps}
 
@@ -170,8 +170,8 @@ module _ (l : Lower) (trees : IsReadBack tree_bytes TreeFits tree_field) where
   statuses = record {
     written = λ n rest h. rw ((a_byte l).written n rest (status_low n h), h) refl;
     took = λ b x h e.
-        let a = bind_ok (byte_field b) (λ status. when (is_status status.0) (misread b) status) x e in
-        let w = when_ok (is_status a.0.0) (misread b) a.0 x a.2 in
+        let a = bind_ok (byte_field b) (λ status. when (is_status status.0) (misreading b) status) x e in
+        let w = when_ok (is_status a.0.0) (misreading b) a.0 x a.2 in
         let t = (a_byte l).took b a.0 h a.1 in
         subst (λ (y : ℕ × List ℕ). Took one_byte IsStatus b y) w.1 (w.0, t.1, t.2);
   } where

@@ -16,7 +16,7 @@ use Rattle.salt_wire.specs.declared.fault.Misread.TheVariants.{BadField}
 use Rattle.salt_wire.specs.declared.tree.Room.{Room}
 use Rattle.salt_wire.specs.Spelling.{id, tree_bytes, tree_layer}
 use Rattle.salt_wire.specs.Limits.{is_id, is_leaf_text, right, right_layer, nodes, nodes_layer, pattern_count, pattern_count_layer, TreeFits}
-use Rattle.salt_wire.specs.Decoding.{misread, byte_field, text_field, id_or, is_pattern_tag, room_after, with_room, tag_field, leaf_text, leaf_ids, is_text_tag, leaf, text_node, list_node, not_node, and_node, or_node, node_after, tree_at, whole_room, tree_field}
+use Rattle.salt_wire.specs.Decoding.{misreading, byte_field, text_field, id_or, is_pattern_tag, room_after, with_room, tag_field, leaf_text, leaf_ids, is_text_tag, leaf, text_node, list_node, not_node, and_node, or_node, node_after, tree_at, whole_room, tree_field}
 use Rattle.salt_wire.specs.RoundTrip.{Took, IsReadBack}
 use Rattle.salt_wire.proofs.TreeLayers.{at-IdGlob, at-IdPcre, at-IdList, at-GrainGlob, at-GrainPcre, at-PillarGlob, at-PillarPcre, at-Not, at-And, at-Or}
 use Rattle.salt_wire.proofs.Codec.{Lower, bind_ok, ok_is, when_ok, both, join, one_byte, IsByte, a_byte, texts, ids_or, is_id-IsId, IsId-is_id}
@@ -129,7 +129,7 @@ module _ (l : Lower) where
       let a = both_true (leb 1 (length xs)) (leb (length xs) 65535 && list_all is_id xs) h in
       let b = both_true (leb (length xs) 65535) (list_all is_id xs) a.1 in
       let small : length xs ≤ 65535 = leb-true _ _ b.0 in
-      let f = misread ((to_be_bytes w16 (length xs) ++ concatenation (map id xs)) ++ rest) in
+      let f = misreading ((to_be_bytes w16 (length xs) ++ concatenation (map id xs)) ++ rest) in
       rw (l.numbers_written w16 f (length xs) (concatenation (map id xs) ++ rest) (omega arith) (omega (arith, small)), several_written f xs rest b.1, a.0, le-leb stop (length rest) le) refl
 
   pub tag_written : (room : Room) (tag : ℕ) (more : List ℕ) → tag < 256 → 1 ≤ room.nodes → cost tag ≤ room.patterns → room.stop ≤ length more
@@ -289,10 +289,10 @@ module _ (l : Lower) where
   pub tag_took : (room : Room) (b : List ℕ) (y : ℕ × Room × List ℕ) → IsBytes b → tag_field room b ≡ Ok y → TagTook room b y
   unfolding tag_field
   tag_took room b y h e =
-      let a = bind_ok (byte_field b) (λ tag. when (leb room.stop (length tag.1)) (misread b) tag >>= λ ended. with_room (misread b) ended (room_after room ended.0)) y e in
-      let w = bind_ok (when (leb room.stop (length a.0.1)) (misread b) a.0) (λ ended. with_room (misread b) ended (room_after room ended.0)) y a.2 in
-      let g = when_ok (leb room.stop (length a.0.1)) (misread b) a.0 w.0 w.1 in
-      let r = with_room_ok (misread b) w.0 (room_after room w.0.0) y w.2 in
+      let a = bind_ok (byte_field b) (λ tag. when (leb room.stop (length tag.1)) (misreading b) tag >>= λ ended. with_room (misreading b) ended (room_after room ended.0)) y e in
+      let w = bind_ok (when (leb room.stop (length a.0.1)) (misreading b) a.0) (λ ended. with_room (misreading b) ended (room_after room ended.0)) y a.2 in
+      let g = when_ok (leb room.stop (length a.0.1)) (misreading b) a.0 w.0 w.1 in
+      let r = with_room_ok (misreading b) w.0 (room_after room w.0.0) y w.2 in
       let t = (a_byte l).took b a.0 h a.1 in
       let same : Took one_byte IsByte b w.0 = subst (λ (x : ℕ × List ℕ). Took one_byte IsByte b x) g.1 t in
       let inside : room.stop ≤ length w.0.1 = subst (λ (x : ℕ × List ℕ). room.stop ≤ length x.1) g.1 (leb-true _ _ g.0) in
@@ -307,8 +307,8 @@ module _ (l : Lower) where
   pub leaf_text_took : (stop : ℕ) (b : List ℕ) (x : List ℕ × List ℕ) → IsBytes b → leaf_text stop b ≡ Ok x → TextTook stop b x
   unfolding leaf_text
   leaf_text_took stop b x h e =
-      let a = bind_ok (text_field b) (λ text. when (leb 1 (length text.0) && (leb (length text.0) 4096 && leb stop (length text.1))) (misread b) text) x e in
-      let w = when_ok (leb 1 (length a.0.0) && (leb (length a.0.0) 4096 && leb stop (length a.0.1))) (misread b) a.0 x a.2 in
+      let a = bind_ok (text_field b) (λ text. when (leb 1 (length text.0) && (leb (length text.0) 4096 && leb stop (length text.1))) (misreading b) text) x e in
+      let w = when_ok (leb 1 (length a.0.0) && (leb (length a.0.0) 4096 && leb stop (length a.0.1))) (misreading b) a.0 x a.2 in
       let t = (texts l).took b a.0 h a.1 in
       let p = both_true (leb 1 (length a.0.0)) (leb (length a.0.0) 4096 && leb stop (length a.0.1)) w.0 in
       let q = both_true (leb (length a.0.0) 4096) (leb stop (length a.0.1)) p.1 in
@@ -347,12 +347,12 @@ module _ (l : Lower) where
   pub leaf_ids_took : (stop : ℕ) (b : List ℕ) (x : List (List ℕ) × List ℕ) → IsBytes b → leaf_ids stop b ≡ Ok x → IdsTook stop b x
   unfolding leaf_ids
   leaf_ids_took stop b x h e =
-      let a = bind_ok (number_or w16 (misread b) b) (λ count. several (id_or (misread b)) count.0 count.1 >>= λ ids. when (leb 1 count.0 && leb stop (length ids.1)) (misread b) ids) x e in
-      let c = bind_ok (several (id_or (misread b)) a.0.0 a.0.1) (λ ids. when (leb 1 a.0.0 && leb stop (length ids.1)) (misread b) ids) x a.2 in
-      let w = when_ok (leb 1 a.0.0 && leb stop (length c.0.1)) (misread b) c.0 x c.2 in
+      let a = bind_ok (number_or w16 (misreading b) b) (λ count. several (id_or (misreading b)) count.0 count.1 >>= λ ids. when (leb 1 count.0 && leb stop (length ids.1)) (misreading b) ids) x e in
+      let c = bind_ok (several (id_or (misreading b)) a.0.0 a.0.1) (λ ids. when (leb 1 a.0.0 && leb stop (length ids.1)) (misreading b) ids) x a.2 in
+      let w = when_ok (leb 1 a.0.0 && leb stop (length c.0.1)) (misreading b) c.0 x c.2 in
       let p = both_true (leb 1 a.0.0) (leb stop (length c.0.1)) w.0 in
-      let n = l.numbers_read w16 (misread b) b a.0.0 a.0.1 (omega arith) h a.1 in
-      let s = several_took (misread b) a.0.0 a.0.1 c.0 n.2 c.1 in
+      let n = l.numbers_read w16 (misreading b) b a.0.0 a.0.1 (omega arith) h a.1 in
+      let s = several_took (misreading b) a.0.0 a.0.1 c.0 n.2 c.1 in
       let some : 1 ≤ length c.0.0 = omega (arith, leb-true _ _ p.0, s.count) in
       let small : length c.0.0 ≤ 65535 = omega (arith, n.0, s.count) in
       subst (λ (y : List (List ℕ) × List ℕ). IdsTook stop b y) w.1 (record {

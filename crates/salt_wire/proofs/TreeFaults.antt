@@ -14,7 +14,7 @@ use Rattle.salt_wire.specs.declared.fault.Misread.TheVariants.{BadField}
 use Rattle.salt_wire.specs.declared.tree.Room.{Room}
 use Rattle.salt_wire.specs.Spelling.{id}
 use Rattle.salt_wire.specs.Limits.{is_id}
-use Rattle.salt_wire.specs.Decoding.{misread, id_or, ends_before, is_text_tag, is_pattern_tag, room_after, with_room, tag_field, leaf_text, leaf_ids, leaf, text_node, list_node, not_node, and_node, or_node, node_after, tree_at, whole_room, tree_field}
+use Rattle.salt_wire.specs.Decoding.{misreading, id_or, ends_before, is_text_tag, is_pattern_tag, room_after, with_room, tag_field, leaf_text, leaf_ids, leaf, text_node, list_node, not_node, and_node, or_node, node_after, tree_at, whole_room, tree_field}
 use Rattle.salt_wire.specs.FirstFault.{IsTold, After, LeafText, LeafIds, Subtrees, NoNode, after_bytes, is_node, subtrees, AreIds, IsAfter, Node, nodes_bytes, pattern_leaves, AreUnended, InLimits, NodeWrong, NodesWrong, TreeWrong}
 use Rattle.salt_wire.proofs.Codec.{Lower, bind_ok, ok_is}
 use Rattle.salt_wire.proofs.WriteLemmas.{both_true}
@@ -30,22 +30,22 @@ after_field LeafIds stop b = leaf_ids stop b >>= λ x. Ok x.1
 after_field (Subtrees n) stop b = Ok b
 after_field NoNode stop b = Err (BadField (suc (length b)))
 
-leaf_text_only : (stop : ℕ) (b : List ℕ) → Only (misread b) (leaf_text stop b)
+leaf_text_only : (stop : ℕ) (b : List ℕ) → Only (misreading b) (leaf_text stop b)
 unfolding leaf_text
-leaf_text_only stop b = both (misread b) _ _ (text_only (misread b) b) (λ x. test (misread b) _ _ _ good fault)
+leaf_text_only stop b = both (misreading b) _ _ (text_only (misreading b) b) (λ x. test (misreading b) _ _ _ good fault)
 
 several_only : (f : Misread) (n : ℕ) (b : List ℕ) → Only f (several (id_or f) n b)
 unfolding several
 several_only f zero b = good
 several_only f (suc n) b = both f _ _ (counted_only f w8 is_id b) (λ x. both f _ _ (several_only f n x.1) (λ y. good))
 
-leaf_ids_only : (stop : ℕ) (b : List ℕ) → Only (misread b) (leaf_ids stop b)
+leaf_ids_only : (stop : ℕ) (b : List ℕ) → Only (misreading b) (leaf_ids stop b)
 unfolding leaf_ids
-leaf_ids_only stop b = both (misread b) _ _ (number_only w16 (misread b) b) (λ n. both (misread b) _ _ (several_only (misread b) n.0 n.1) (λ x. test (misread b) _ _ _ good fault))
+leaf_ids_only stop b = both (misreading b) _ _ (number_only w16 (misreading b) b) (λ n. both (misreading b) _ _ (several_only (misreading b) n.0 n.1) (λ x. test (misreading b) _ _ _ good fault))
 
-after_only : (a : After) (stop : ℕ) (b : List ℕ) → is_node a ≡ true → Only (misread b) (after_field a stop b)
-after_only LeafText stop b h = both (misread b) _ _ (leaf_text_only stop b) (λ x. good)
-after_only LeafIds stop b h = both (misread b) _ _ (leaf_ids_only stop b) (λ x. good)
+after_only : (a : After) (stop : ℕ) (b : List ℕ) → is_node a ≡ true → Only (misreading b) (after_field a stop b)
+after_only LeafText stop b h = both (misreading b) _ _ (leaf_text_only stop b) (λ x. good)
+after_only LeafIds stop b h = both (misreading b) _ _ (leaf_ids_only stop b) (λ x. good)
 after_only (Subtrees n) stop b h = good
 after_only NoNode stop b h = absurd cc
 
@@ -59,9 +59,9 @@ room_only : (f : Misread) (tag : ℕ × List ℕ) (o : Option Room) → Only f (
 room_only f tag None = fault
 room_only f tag (Some r) = good
 
-tag_only : (room : Room) (b : List ℕ) → Only (misread b) (tag_field room b)
+tag_only : (room : Room) (b : List ℕ) → Only (misreading b) (tag_field room b)
 unfolding tag_field
-tag_only room b = both (misread b) _ _ (number_only w8 (misread b) b) (λ x. both (misread b) (when (ends_before room.stop x) (misread b) x) _ (test (misread b) (ends_before room.stop x) (Ok x) (Err (misread b)) good fault) (λ y. room_only (misread b) y (room_after room y.0)))
+tag_only room b = both (misreading b) _ _ (number_only w8 (misreading b) b) (λ x. both (misreading b) (when (ends_before room.stop x) (misreading b) x) _ (test (misreading b) (ends_before room.stop x) (Ok x) (Err (misreading b)) good fault) (λ y. room_only (misreading b) y (room_after room y.0)))
 
 record AfterTook (a : After) (stop : ℕ) (b rest : List ℕ) : Type 0 where
   field : List ℕ
@@ -98,7 +98,7 @@ module _ (l : Lower) where
 
 nodes_at : ℕ → ℕ → ℕ → ℕ → List ℕ → Result (Room × List ℕ) Misread
 nodes_at zero zero p s b = Ok (made zero p s, b)
-nodes_at zero (suc k) p s b = Err (misread b)
+nodes_at zero (suc k) p s b = Err (misreading b)
 nodes_at (suc n) zero p s b = Ok (made (suc n) p s, b)
 nodes_at (suc n) (suc k) p s b = tag_field (made (suc n) p s) b >>= λ tag. after_field (after_bytes tag.0) s tag.2 >>= λ rest. nodes_at n (k + subtrees (after_bytes tag.0)) tag.1.patterns s rest
 
@@ -156,9 +156,9 @@ module _ (l : Lower) where
         (pick room k b (eqb tag 10) (Subtrees 2) _ _ _ (of_two t.Or room k b le h)
         (pick room k b (is_text_tag tag) LeafText NoNode _ _ (of_leaf room k (leaf tag) (leaf_text room.stop b)) refl))))
 
-  no_tag : (p s : ℕ) (b : List ℕ) → IsBytes b → tag_field (made 0 p s) b ≡ Err (misread b)
+  no_tag : (p s : ℕ) (b : List ℕ) → IsBytes b → tag_field (made 0 p s) b ≡ Err (misreading b)
   no_tag p s b h = by (tag_field (made 0 p s) b) refl where
-    by : (r : Result (ℕ × Room × List ℕ) Misread) → tag_field (made 0 p s) b ≡ r → r ≡ Err (misread b)
+    by : (r : Result (ℕ × Room × List ℕ) Misread) → tag_field (made 0 p s) b ≡ r → r ≡ Err (misreading b)
     by (Ok y) q = let g = (tag_took l (made 0 p s) b y h q).room_left in absurd (omega (arith, g.one))
     by (Err e) q = ap (λ f. Err f) ((tag_only (made 0 p s) b).is e q)
 
@@ -330,7 +330,7 @@ module _ (l : Lower) where
   nodes_met zero zero p m s b f h e q = never (made zero p s, b) f q
   nodes_met (suc n) zero p m s b f h e q = never (made (suc n) p s, b) f q
   nodes_met zero (suc k) p m s b f h e q =
-      at_once zero p m k b b f (inl (refl, λ front rest may parts. absurd (omega (arith, may.1.1.few_nodes)))) (sym (err_is (misread b) f q))
+      at_once zero p m k b b f (inl (refl, λ front rest may parts. absurd (omega (arith, may.1.1.few_nodes)))) (sym (err_is (misreading b) f q))
   nodes_met (suc n) (suc k) p m s b f h e q =
       elim (bind_err (tag_field (made (suc n) p s) b) (then_more n k s) f q) [
         | inl r ↦ at_once (suc n) p m k b b f (inl (refl, λ front rest may parts. no_tag may.0 rest may.1.1 (parts ∙ ap (λ (x : List ℕ). x ++ rest) may.2) r)) ((tag_only (made (suc n) p s) b).is f r)

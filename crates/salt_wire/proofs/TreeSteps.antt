@@ -2,9 +2,9 @@
 use Rattle.std.proofs.Common.{◌≡◌, ℕ, suc, ◌-◌, ◌<◌, List, Err, ap, arith}
 use Rattle.salt_value.specs.Readers.{◌>>=◌}
 use Rattle.salt_wire.specs.declared.tree.Room.{Room}
-use Rattle.salt_wire.specs.Decoding.{misread, tag_field, node_after, tree_at}
+use Rattle.salt_wire.specs.Decoding.{misreading, tag_field, node_after, tree_at}
 
-pub tree_at-none : (n : ℕ) (room : Room) (bytes : List ℕ) → n ≡ 0 → tree_at n room bytes ≡ Err (misread bytes)
+pub tree_at-none : (n : ℕ) (room : Room) (bytes : List ℕ) → n ≡ 0 → tree_at n room bytes ≡ Err (misreading bytes)
 unfolding tree_at
 tree_at-none n room bytes e = ap (λ k. tree_at k room bytes) e
 

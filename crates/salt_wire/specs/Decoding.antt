@@ -3,7 +3,7 @@ use Rattle.std.specs.Prelude.{◌≡◌, true, false, MatchOption, ℕ, zero, su
 use Rattle.std.specs.List.{list_all, find}
 use Rattle.std.specs.Borrow.{Bor}
 use Rattle.std.specs.Int.{Width, w8, w16, w32, w64}
-use Rattle.salt_value.specs.Readers.{Reader, ◌>>=◌, when, found, several, Gives}
+use Rattle.salt_value.specs.Readers.{Reader, ◌>>=◌, when, option_reader, several, Gives}
 use Rattle.salt_value.specs.Decoding.{number_or, text_or, read_at}
 use Rattle.salt_value.specs.Limits.{most_word_bytes}
 use Rattle.salt_value.specs.Jid.{greatest_jid}
@@ -46,26 +46,26 @@ GivesNode result read = Gives NoMemory (λ x. (x.0, x.1, x.2.now)) result read
 -- ---- fields. One that isn't whole or breaks its rule is told at its first byte
 
 -- the field that begins these bytes is wrong
-abbrev pub misread : List ℕ → Misread
-misread bytes = BadField (length bytes)
+abbrev pub misreading : List ℕ → Misread
+misreading bytes = BadField (length bytes)
 
 -- a byte
 abbrev pub byte_field : Reader Misread ℕ
-byte_field bytes = number_or w8 (misread bytes) bytes
+byte_field bytes = number_or w8 (misreading bytes) bytes
 
 -- a number of 32 bits
 abbrev pub number_field : Reader Misread ℕ
-number_field bytes = number_or w32 (misread bytes) bytes
+number_field bytes = number_or w32 (misreading bytes) bytes
 
 -- a text
 abbrev pub text_field : Reader Misread (List ℕ)
-text_field bytes = text_or (misread bytes) (misread bytes) bytes
+text_field bytes = text_or (misreading bytes) (misreading bytes) bytes
 
 -- a text of at most so many bytes
 abbrev pub short_text : ℕ → Reader Misread (List ℕ)
 short_text most bytes = do
   text ← text_field bytes
-  when (nat_le (length text.0) most) (misread bytes) text
+  when (nat_le (length text.0) most) (misreading bytes) text
 
 -- bytes that pass a test, after a number of this width that tells how many they are
 unfoldable pub counted_or : Misread → Width → (List ℕ → Bool) → Reader Misread (List ℕ)
@@ -79,7 +79,7 @@ is_word bytes = nat_le 1 (length bytes) && (nat_le (length bytes) most_word_byte
 
 -- the word that bytes are, and none where they are no word. No public contract cites it.
 abbrev pub IsWordOf : List ℕ → Option (List ℕ) → Type 0
-IsWordOf bytes found = MatchOption found (is_word bytes ≡ false) (λ word. (is_word bytes ≡ true) × (word ≡ bytes))
+IsWordOf bytes option_reader = MatchOption option_reader (is_word bytes ≡ false) (λ word. (is_word bytes ≡ true) × (word ≡ bytes))
 
 -- an id after the byte of its length, or this fault
 abbrev pub id_or : Misread → Reader Misread (List ℕ)
@@ -87,17 +87,17 @@ id_or f bytes = counted_or f w8 is_id bytes
 
 -- an id after the byte of its length
 abbrev pub id_field : Reader Misread (List ℕ)
-id_field bytes = id_or (misread bytes) bytes
+id_field bytes = id_or (misreading bytes) bytes
 
 -- a word after the two bytes of its length
 abbrev pub word_field : Reader Misread (List ℕ)
-word_field bytes = counted_or (misread bytes) w16 is_word bytes
+word_field bytes = counted_or (misreading bytes) w16 is_word bytes
 
 -- a job id
 unfoldable pub jid_field : Reader Misread ℕ
 jid_field bytes = do
-  n ← number_or w64 (misread bytes) bytes
-  when (nat_le n.0 greatest_jid) (misread bytes) n
+  n ← number_or w64 (misreading bytes) bytes
+  when (nat_le n.0 greatest_jid) (misreading bytes) n
 
 -- each kind of target
 abbrev pub kinds : List Kind
@@ -111,12 +111,12 @@ kind_of code = find (λ kind. kind_code kind == code) kinds
 unfoldable pub kind_field : Reader Misread Kind
 kind_field bytes = do
   code ← byte_field bytes
-  found (misread bytes) (kind_of code.0) code.1
+  option_reader (misreading bytes) (kind_of code.0) code.1
 
 -- the value that was read, and the bytes after it; each fault of a value is one of its field
 abbrev pub value_or : List ℕ → Result (Value × ℕ) ValueFault → Result (Value × List ℕ) Misread
 value_or bytes (Ok x) = Ok (x.0, drop x.1 bytes)
-value_or bytes (Err e) = Err (misread bytes)
+value_or bytes (Err e) = Err (misreading bytes)
 
 -- a value
 unfoldable pub value_field : Reader Misread Value
@@ -135,7 +135,7 @@ value_items value = items_layer (out-Value value)
 unfoldable pub items_field : Reader Misread (List Value)
 items_field bytes = do
   value ← value_field bytes
-  found (misread bytes) (value_items value.0) value.1
+  option_reader (misreading bytes) (value_items value.0) value.1
 
 -- by cases on the value: a map alone has pairs
 abbrev pub pairs_layer : Value-F Value → Option (List (List ℕ × Value))
@@ -150,7 +150,7 @@ value_pairs value = pairs_layer (out-Value value)
 unfoldable pub fields_field : Reader Misread (List (List ℕ × Value))
 fields_field bytes = do
   value ← value_field bytes
-  found (misread bytes) (value_pairs value.0) value.1
+  option_reader (misreading bytes) (value_pairs value.0) value.1
 
 -- ---- entries and messages
 
@@ -222,21 +222,21 @@ with_room f tag (Some room) = Ok (tag.0, room, tag.1)
 unfoldable pub tag_field : Room → List ℕ → Result (ℕ × Room × List ℕ) Misread
 tag_field room bytes = do
   tag ← byte_field bytes
-  ended ← when (ends_before room.stop tag) (misread bytes) tag
-  with_room (misread bytes) ended (room_after room ended.0)
+  ended ← when (ends_before room.stop tag) (misreading bytes) tag
+  with_room (misreading bytes) ended (room_after room ended.0)
 
 -- the text of a leaf
 unfoldable pub leaf_text : ℕ → Reader Misread (List ℕ)
 leaf_text stop bytes = do
   text ← text_field bytes
-  when (nat_le 1 (length text.0) && (nat_le (length text.0) most_leaf_bytes && ends_before stop text)) (misread bytes) text
+  when (nat_le 1 (length text.0) && (nat_le (length text.0) most_leaf_bytes && ends_before stop text)) (misreading bytes) text
 
 -- the ids of a leaf, at least one, after the two bytes of their number; they are one field
 unfoldable pub leaf_ids : ℕ → Reader Misread (List (List ℕ))
 leaf_ids stop bytes = do
-  count ← number_or w16 (misread bytes) bytes
-  ids ← several (id_or (misread bytes)) count.0 count.1
-  when (nat_le 1 count.0 && ends_before stop ids) (misread bytes) ids
+  count ← number_or w16 (misreading bytes) bytes
+  ids ← several (id_or (misreading bytes)) count.0 count.1
+  when (nat_le 1 count.0 && ends_before stop ids) (misreading bytes) ids
 
 -- a tree at the front of some bytes, what may still come in the tree around it, and the bytes after it
 abbrev pub TreeReader : Type 0
@@ -295,7 +295,7 @@ node_after part tag room bytes =
 
 -- a tree of at most so many levels, which may have no more than this
 unfoldable pub tree_at : ℕ → TreeReader
-tree_at zero room bytes = Err (misread bytes)
+tree_at zero room bytes = Err (misreading bytes)
 tree_at (suc levels) room bytes = do
   tag ← tag_field room bytes
   node_after (tree_at levels) tag.0 tag.1 tag.2
@@ -384,7 +384,7 @@ ask_mine_fields bytes = do
 unfoldable pub status_field : Reader Misread ℕ
 status_field bytes = do
   status ← byte_field bytes
-  when (is_status status.0) (misread bytes) status
+  when (is_status status.0) (misreading bytes) status
 
 -- the status and the report
 unfoldable pub answer_fields : Reader Misread Message

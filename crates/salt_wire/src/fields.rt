@@ -69,7 +69,7 @@ pub fn id_or(bytes: &[u8], bad: Misread) -> Parsed<'_, MinionId>
 // An id.
 pub fn id_at(bytes: &[u8]) -> Parsed<'_, MinionId>
     ensures gives { spec.GivesField result (spec.id_field bytes.now) }
-    ensures known { IfErr result (λ e. e ≡ spec.misread bytes.now) }
+    ensures known { IfErr result (λ e. e ≡ spec.misreading bytes.now) }
 {
     id_or(bytes, Misread::BadField(bytes.len()))
 }

@@ -11,7 +11,7 @@ use Rattle.script_text.specs.declared.draft.Stage.{Stage}
 use Rattle.script_text.specs.declared.draft.Stage.TheVariants as stage
 use Rattle.script_text.specs.Script.{IsName, MayStand, turn_line, id_line, top_lines, fleet_lines}
 use Rattle.indexmap.specs.IndexSet.{insert_key}
-use Rattle.script_text.specs.Fleet.{fleet_by, AreIds}
+use Rattle.script_text.specs.Fleet.{fleet_by, AreFleetIds}
 use Rattle.script_text.specs.Refusals.{GoesOn}
 use Rattle.script_text.specs.Draft.{IsOnly, IsRead, IsDraft, IsScriptOf, IsLineTaken, lines_until, draft_lines, minions_of, MayFollow}
 use Rattle.script_text.proofs.Ids.{one_more, new_id, name_of_last, room_for}
@@ -42,8 +42,8 @@ pub draft_goes_on : (d : Draft) → IsDraft d → GoesOn (draft_lines d)
 draft_goes_on d h = goes_on d.top (minions_of d) d.last d.turns d.stage h.read
 
 -- the ids of a draft
-pub ids_of : (d : Draft) → IsDraft d → AreIds d.ids.keys
-ids_of d h = let P : List (List ℕ) → Type 0 = AreIds in subst P (sym h.first) h.read.ids
+pub ids_of : (d : Draft) → IsDraft d → AreFleetIds d.ids.keys
+ids_of d h = let P : List (List ℕ) → Type 0 = AreFleetIds in subst P (sym h.first) h.read.ids
 
 len_ids : (d : Draft) → IsDraft d → length d.ids.keys ≡ length (d.top ∷ minions_of d)
 len_ids d h = ap (λ l. length l) h.first

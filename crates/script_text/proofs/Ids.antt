@@ -14,7 +14,7 @@ use Rattle.fleet_config.specs.declared.fleet.Role.TheVariants as role
 use Rattle.fleet_config.specs.Tree.{plain_member, id_of, parent_of, is_parent}
 use Rattle.script_text.specs.Lines.{Lacks}
 use Rattle.script_text.specs.Script.{IsName, HasIds}
-use Rattle.script_text.specs.Fleet.{tree_by, AreIds}
+use Rattle.script_text.specs.Fleet.{tree_by, AreFleetIds}
 use Rattle.script_text.specs.Turns.{are_neighbours}
 use Rattle.script_text.proofs.Words.{no_place}
 
@@ -79,17 +79,17 @@ all_at P [] i all h = absurd (omega arith)
 all_at P (x ∷ xs) zero all h = all.0
 all_at P (x ∷ xs) (suc i) all h = all_at P xs i all.1 (omega arith)
 
-name_at : (ids : List (List ℕ)) (i : ℕ) → AreIds ids → i < length ids → IsName (get_or ids i [])
+name_at : (ids : List (List ℕ)) (i : ℕ) → AreFleetIds ids → i < length ids → IsName (get_or ids i [])
 name_at [] i are h = absurd are
 name_at (top ∷ minions) i are h = all_at IsName (top ∷ minions) i are.names h
 
 -- the id of each node is one
-pub name_of_node : (ids : List (List ℕ)) (i : ℕ) → AreIds ids → i < length (tree_by ids) → IsId (id_of (tree_by ids) i)
+pub name_of_node : (ids : List (List ℕ)) (i : ℕ) → AreFleetIds ids → i < length (tree_by ids) → IsId (id_of (tree_by ids) i)
 name_of_node ids i are h =
     let P : List ℕ → Type 0 = IsId in
     subst P (sym (id_at ids i)) (name_at ids i are (omega (arith, count_by ids))).0
 
-pub few_ids : (ids : List (List ℕ)) → AreIds ids → length ids ≤ 4097
+pub few_ids : (ids : List (List ℕ)) → AreFleetIds ids → length ids ≤ 4097
 few_ids [] are = absurd are
 few_ids (top ∷ minions) are = let h = are.few in omega arith
 
@@ -107,11 +107,11 @@ one_place (x ∷ xs) zero (suc j) d h k e = absurd (apart x xs j d.0 (omega arit
 one_place (x ∷ xs) (suc i) zero d h k e = absurd (apart x xs i d.0 (omega arith) (sym e))
 one_place (x ∷ xs) (suc i) (suc j) d h k e = ap suc (one_place xs i j d.1 (omega arith) (omega arith) e)
 
-distinct_by : (ids : List (List ℕ)) → AreIds ids → IsDistinct bytes_eq ids
+distinct_by : (ids : List (List ℕ)) → AreFleetIds ids → IsDistinct bytes_eq ids
 distinct_by [] are = absurd are
 distinct_by (top ∷ minions) are = are.distinct
 
-pub same_node : (ids : List (List ℕ)) (i j : ℕ) → AreIds ids → i < length (tree_by ids) → j < length (tree_by ids)
+pub same_node : (ids : List (List ℕ)) (i j : ℕ) → AreFleetIds ids → i < length (tree_by ids) → j < length (tree_by ids)
     → id_of (tree_by ids) i ≡ id_of (tree_by ids) j → i ≡ j
 same_node ids i j are h k e =
     one_place ids i j (distinct_by ids are) (omega (arith, count_by ids)) (omega (arith, count_by ids)) (sym (id_at ids i) ∙ e ∙ id_at ids j)

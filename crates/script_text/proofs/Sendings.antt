@@ -4,12 +4,12 @@ use Rattle.std.specs.Prelude.{decimal, None, Some}
 use Rattle.salt_value.specs.Reading.{Decodes}
 use Rattle.fleet_config.specs.Tree.{id_of}
 use Rattle.script_text.specs.Lines.{Lacks}
-use Rattle.script_text.specs.Fleet.{tree_by, AreIds}
+use Rattle.script_text.specs.Fleet.{tree_by, AreFleetIds}
 use Rattle.script_text.specs.Turns.{IsPlaceIn, node_text, IsSending, sending_text}
 use Rattle.script_text.proofs.Words.{cut_once, no_cut}
 use Rattle.script_text.proofs.Ids.{name_of_node, same_node, solid_id}
 
-module _ (ids : List (List ℕ)) (are : AreIds ids) where
+module _ (ids : List (List ℕ)) (are : AreFleetIds ids) where
   solid : (n : ℕ) → IsPlaceIn (tree_by ids) n → Lacks 32 (id_of (tree_by ids) n)
   solid n h = solid_id _ (name_of_node ids n are h)
 

@@ -14,6 +14,6 @@ abbrev pub fleet_by : List (List ℕ) → FleetConfig
 fleet_by ids = fleet_with (tree_by ids)
 
 -- No public contract cites it. These may be the ids of a fleet
-abbrev pub AreIds : List (List ℕ) → Type 0
-AreIds [] = ⊥
-AreIds (top ∷ minions) = HasIds top minions
+abbrev pub AreFleetIds : List (List ℕ) → Type 0
+AreFleetIds [] = ⊥
+AreFleetIds (top ∷ minions) = HasIds top minions

@@ -4,7 +4,7 @@ ghost use Rattle.std.specs.List.{list_all};
 ghost use Rattle.salt_value.specs.Reading.{Decodes};
 ghost use Rattle.script_text.specs.Script as spec;
 ghost use Rattle.script_text.specs.Script.{IsPattern};
-ghost use Rattle.script_text.specs.Fleet.{fleet_by, tree_by, AreIds};
+ghost use Rattle.script_text.specs.Fleet.{fleet_by, tree_by, AreFleetIds};
 ghost use Rattle.script_text.specs.Turns as spec_turns;
 ghost use Rattle.script_text.specs.Turns.{ReadsTurn, ReadsInEachFleet, target_text, IsPublication, publication_text, ReadsNode, HasNode, HasNoNode, ReadsSending};
 
@@ -26,7 +26,7 @@ pub fn read_turn(
     ids: &IndexSet<MinionId>,
     line: &[u8],
 ) -> Result<Option<Turn>, AllocError>
-    requires { AreIds ids.now.keys }
+    requires { AreFleetIds ids.now.keys }
     ensures { IfOk result (ReadsTurn (fleet_by ids.now.keys) line.now) }
 {
     if let Some(rest) = strip_front(line, b"publish ") {
@@ -127,7 +127,7 @@ fn read_pattern(alloc: Global, text: &[u8]) -> Result<Option<Text>, AllocError>
 
 // The number of the node with this id.
 fn node_of(ids: &IndexSet<MinionId>, word: &[u8]) -> Option<NodeId>
-    requires { AreIds ids.now.keys }
+    requires { AreFleetIds ids.now.keys }
     ensures { ReadsNode (tree_by ids.now.keys) word.now result }
 {
     let Ok(id) = MinionId::from_bytes(word) else {
@@ -141,7 +141,7 @@ fn node_of(ids: &IndexSet<MinionId>, word: &[u8]) -> Option<NodeId>
 
 // The node whose id stands before the first space, and what stands after it.
 fn read_node<'a>(ids: &IndexSet<MinionId>, text: &'a [u8]) -> Option<(NodeId, &'a [u8])>
-    requires { AreIds ids.now.keys }
+    requires { AreFleetIds ids.now.keys }
     ensures some { IfSome result (λ r. HasNode (tree_by ids.now.keys) text.now r.0 r.1.now) }
     ensures none { IfNone result (HasNoNode (tree_by ids.now.keys) text.now) }
 {
@@ -156,7 +156,7 @@ fn read_node<'a>(ids: &IndexSet<MinionId>, text: &'a [u8]) -> Option<(NodeId, &'
 
 // `FROM TO N`.
 fn read_sending(ids: &IndexSet<MinionId>, text: &[u8]) -> Option<(NodeId, (NodeId, u64))>
-    requires { AreIds ids.now.keys }
+    requires { AreFleetIds ids.now.keys }
     ensures { ReadsSending (tree_by ids.now.keys) text.now result }
 {
     let Some(from) = read_node(ids, text) else {
@@ -180,7 +180,7 @@ fn are_neighbours(a: NodeId, b: NodeId) -> bool
 
 // The turn of a line of which this stands after `send `.
 fn read_send(ids: &IndexSet<MinionId>, rest: &[u8]) -> Option<Turn>
-    requires { AreIds ids.now.keys }
+    requires { AreFleetIds ids.now.keys }
     ensures { ReadsTurn (fleet_by ids.now.keys) (codes "send " ++ rest.now) result }
 {
     let Some(sending) = read_sending(ids, rest) else {

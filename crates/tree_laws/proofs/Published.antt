@@ -15,7 +15,7 @@ use Rattle.minion_core.specs.Flat.{last_jid, is_after, is_later}
 use Rattle.node_core.specs.declared.faults.PublishRefusal.{PublishRefusal}
 use Rattle.node_core.specs.declared.faults.PublishRefusal.TheVariants as refused
 use Rattle.node_core.specs.Node.{with_record}
-use Rattle.node_core.specs.Publications.{Order, order_tree, order_job, order_fits, order_jid, jid_after, unless_refused, publication}
+use Rattle.node_core.specs.Publications.{Order, order_tree, order_job, order_fits, order_jid, jid_or_refusal, unless_refused, publication}
 use Rattle.tree_world.specs.Network.{Network, node_at, top_jobs, with_node_at, after_publication}
 
 -- the job of an order, which may follow these jobs
@@ -57,7 +57,7 @@ published_job f moment o jobs job p = by_tree (order_tree f.groups o) refl p whe
   by_jid tree t (Err cause) j e = absurd cc
   by_jid tree t (Ok jid) j e =
       let is : order_job o tree jid ≡ job = cc in
-      let g = passed (unread_leaf tree) (order_fits o.args tree) (nat_lt (length jobs) f.max_jobs) _ _ _ (jid_after moment jobs) jid j in
+      let g = passed (unread_leaf tree) (order_fits o.args tree) (nat_lt (length jobs) f.max_jobs) _ _ _ (jid_or_refusal moment jobs) jid j in
       subst (IsNewJob f o jobs) is (record {
         tree = t;
         is = refl;

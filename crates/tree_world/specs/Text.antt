@@ -26,27 +26,27 @@ abbrev pub line : List ℕ → List ℕ
 line bytes = bytes ++ 10 ∷ []
 
 -- a word, a space and a number
-abbrev pub numbered : List ℕ → ℕ → List ℕ
-numbered word n = word ++ (codes " " ++ decimal n)
+abbrev pub word_and_number : List ℕ → ℕ → List ℕ
+word_and_number word n = word ++ (codes " " ++ decimal n)
 
 -- the words of a fault of a target's text: its name, and its number where it has one
 abbrev pub target_fault_text : TargetFault → List ℕ
 target_fault_text fault.NoMemory = codes "NoMemory"
 target_fault_text fault.Empty = codes "Empty"
 target_fault_text fault.TooLong = codes "TooLong"
-target_fault_text (fault.Word at) = numbered (codes "Word") at
+target_fault_text (fault.Word at) = word_and_number (codes "Word") at
 target_fault_text fault.Unclosed = codes "Unclosed"
 target_fault_text fault.TooDeep = codes "TooDeep"
 target_fault_text fault.TooManyWords = codes "TooManyWords"
 target_fault_text fault.TooManyPatterns = codes "TooManyPatterns"
-target_fault_text (fault.UnknownGroup at) = numbered (codes "UnknownGroup") at
-target_fault_text (fault.Circle at) = numbered (codes "Circle") at
-target_fault_text (fault.BadLetter at) = numbered (codes "BadLetter") at
+target_fault_text (fault.UnknownGroup at) = word_and_number (codes "UnknownGroup") at
+target_fault_text (fault.Circle at) = word_and_number (codes "Circle") at
+target_fault_text (fault.BadLetter at) = word_and_number (codes "BadLetter") at
 
 -- the words of a refusal
 abbrev pub refusal_text : PublishRefusal → List ℕ
 refusal_text (Target cause) = codes "Target " ++ target_fault_text cause
-refusal_text (BadPattern leaf) = numbered (codes "BadPattern") leaf
+refusal_text (BadPattern leaf) = word_and_number (codes "BadPattern") leaf
 refusal_text TooLarge = codes "TooLarge"
 refusal_text (JobsFull max) = codes "JobsFull"
 refusal_text JidEnd = codes "JidEnd"
