@@ -1,13 +1,12 @@
 -- What is found in a store with a job or a return more.
-use Rattle.std.proofs.Common.{◌≡◌, ◌≢◌, ℕ, zero, suc, ◌<◌, ◌∙◌, sym, ap, refl, Bool, true, false, cond, List, [], ◌∷◌, ◌++◌, length, Option, None, Some, slice_get, bytes_eq, arith}
+use Rattle.std.proofs.Common.{◌≡◌, ℕ, zero, suc, ◌∙◌, ap, refl, Bool, true, false, cond, List, [], ◌∷◌, ◌++◌, Option, None, Some, slice_get, bytes_eq, arith}
 use Rattle.std.specs.Prelude.{slice_set, is_some}
 use Rattle.std.specs.Option.{option_map_or}
 use Rattle.std.specs.Map.{lookup}
 use Rattle.std.proofs.lemmas.Slice.Eq.{bytes_eq-Decides}
 use Rattle.salt_value.specs.declared.outcome.Outcome.{Outcome}
 use Rattle.salt_value.specs.declared.outcome.Row.{Row}
-use Rattle.salt_wire.specs.declared.message.Job.{Job}
-use Rattle.job_store.specs.Store.{StoredJob, outcome_in, stored_outcome, has_outcome, with_job, with_row, with_return}
+use Rattle.job_store.specs.Store.{StoredJob, stored_outcome, with_row, with_return}
 use Rattle.job_store.specs.Laws.{KeepsOutcomes, FindsReturn, KeepsOtherMinions, KeepsOtherJobs}
 
 -- a job more
