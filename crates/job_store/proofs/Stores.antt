@@ -1,18 +1,20 @@
 -- What a store keeps, as the store that contracts see.
-use Rattle.std.proofs.Common.{◌≡◌, ℕ, zero, suc, ◌+◌, ◌<◌, ◌∙◌, sym, ap, refl, Bool, true, false, true≢false, take, List, [], ◌∷◌, ◌++◌, length, Option, None, Some, slice_get, bytes_eq, arith}
+use Rattle.std.proofs.Common.{◌≡◌, ℕ, zero, suc, ◌+◌, ◌<◌, ◌∙◌, sym, ap, subst, refl, Bool, true, false, true≢false, take, List, [], ◌∷◌, ◌++◌, length, Option, None, Some, slice_get, bytes_eq, arith}
 use Rattle.std.specs.Prelude.{slice_set, is_some, unwrap_or}
 use Rattle.std.proofs.Math.Seq.{take-append_seam}
 use Rattle.std.specs.Option.{option_copied, option_map_or}
+use Rattle.std.specs.List.{AllByRecursion, IsDistinct}
+use Rattle.std.specs.Map.{keys_of}
 use Rattle.std.specs.Slice.{IsItemAt}
-use Rattle.std.proofs.lemmas.List.{length-append}
+use Rattle.std.proofs.lemmas.List.{length-append, length-set}
 use Rattle.std.proofs.lemmas.Option.{slice_get_past, slice_get-get_or}
 use denote.Ref.{Bor}
-use Rattle.indexmap.specs.IndexMap.{get}
+use Rattle.indexmap.specs.IndexMap.{get, IsUnique}
 use Rattle.salt_value.specs.declared.outcome.Outcome.{Outcome}
 use Rattle.salt_value.specs.declared.outcome.Row.{Row}
 use Rattle.salt_wire.specs.declared.message.Job.{Job}
 use Rattle.minion_core.specs.Flat.{is_later}
-use Rattle.job_store.specs.Store.{StoredJob, stored_jobs, stored_outcome, with_job, with_row, with_return}
+use Rattle.job_store.specs.Store.{StoredJob, ReturnOnce, stored_jobs, stored_outcome, with_job, with_row, with_return}
 use Rattle.job_store.specs.Tables.{ReturnTable, store_of, AreStored}
 use Rattle.job_store.proofs.Rising.{rising_push}
 
@@ -39,7 +41,34 @@ none_copied (Some x) b e f = absurd (true≢false (sym e ∙ f))
 pub cut_back : {X : Type 0} (n : ℕ) (xs ys zs : List X) → n ≡ length xs → ys ≡ xs ++ zs → take n ys ≡ xs
 cut_back n xs ys zs long is = rw (long, is) (take-append_seam xs zs)
 
+none_twice : IsDistinct {K = List ℕ} bytes_eq []
+unfolding IsDistinct
+none_twice = tt
+
+all_push : {X : Type 0} (P : X → Type 0) (xs : List X) (x : X) → AllByRecursion P xs → P x → AllByRecursion P (xs ++ x ∷ [])
+all_push P [] x h p = (p, tt)
+all_push P (y ∷ xs) x h p = (h.0, all_push P xs x h.1 p)
+
+all_set : {X : Type 0} (P : X → Type 0) (xs : List X) (i : ℕ) (x : X) → AllByRecursion P xs → P x → AllByRecursion P (slice_set xs i x)
+all_set P [] i x h p = tt
+all_set P (y ∷ xs) zero x h p = (p, h.1)
+all_set P (y ∷ xs) (suc i) x h p = (h.0, all_set P xs i x h.1 p)
+
 module _ {S : Type 0} where
+  once_back : (jobs : List Job) (tables : List (ReturnTable S)) → AllByRecursion (λ (table : ReturnTable S). IsUnique bytes_eq table) tables → ReturnOnce (store_of jobs tables)
+  once_back [] tables h = tt
+  once_back (job ∷ jobs) [] h = tt
+  once_back (job ∷ jobs) (table ∷ tables) h = (h.0, once_back jobs tables h.1)
+
+  -- another table without an id twice keeps what holds of both
+  pub stored_set : (jobs : List Job) (tables : List (ReturnTable S)) → AreStored jobs tables → (i : ℕ) (table : ReturnTable S) → IsUnique bytes_eq table → AreStored jobs (slice_set tables i table)
+  stored_set jobs tables h i table unique = record {
+    paired = length-set tables i table ∙ h.paired;
+    rising = h.rising;
+    few = h.few;
+    once = all_set (λ (t : ReturnTable S). IsUnique bytes_eq t) tables i table h.once unique;
+  }
+
   jobs_back : (jobs : List Job) (tables : List (ReturnTable S)) → length tables ≡ length jobs → jobs ≡ stored_jobs (store_of jobs tables)
   jobs_back [] tables e = refl
   jobs_back (job ∷ jobs) [] e = absurd (omega (arith, e))
@@ -93,18 +122,23 @@ module _ {S : Type 0} where
       ap (λ (rest : List StoredJob). record { job = job; returns = table.entries } ∷ rest) (return_kept jobs tables i old new at kept)
 
   -- a job that is later, and a table, keep what holds of both
-  pub stored_push : (jobs : List Job) (tables : List (ReturnTable S)) → AreStored jobs tables → (job : Job) (table : ReturnTable S)
+  pub stored_push : (jobs : List Job) (tables : List (ReturnTable S)) → AreStored jobs tables → (job : Job) (table : ReturnTable S) → table.entries ≡ []
       → is_later jobs job ≡ true → length jobs < 4_294_967_295 → AreStored (jobs ++ job ∷ []) (tables ++ table ∷ [])
-  stored_push jobs tables h job table later room = record {
+  stored_push jobs tables h job table none later room = record {
     paired = length-append tables (table ∷ []) ∙ ap (λ n. n + 1) h.paired ∙ sym (length-append jobs (job ∷ []));
     rising = rising_push jobs job h.rising later;
     few = let more : length (jobs ++ job ∷ []) ≡ length jobs + 1 = length-append jobs (job ∷ []) in omega (arith, more, room);
+    once = all_push (λ (t : ReturnTable S). IsUnique bytes_eq t) tables table h.once (subst (λ (es : List (List ℕ × Outcome)). IsDistinct bytes_eq (keys_of es)) (sym none) none_twice);
   }
 
   module _ (jobs : List Job) (tables : List (ReturnTable S)) (h : AreStored jobs tables) (store : List StoredJob) (is : store_of jobs tables ≡ store) where
     -- the jobs of the store
     pub jobs_of : jobs ≡ stored_jobs store
     jobs_of = jobs_back jobs tables h.paired ∙ ap stored_jobs is
+
+    -- no minion returned one twice
+    pub once_of : ReturnOnce store
+    once_of = subst ReturnOnce is (once_back jobs tables h.once)
 
     -- their number
     pub count_of : length jobs ≡ length store

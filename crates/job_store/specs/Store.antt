@@ -1,7 +1,8 @@
 -- A store of jobs: each job in order, with what the minions returned of it.
 use Rattle.std.specs.Prelude.{ℕ, Bool, List, [], ◌∷◌, ◌++◌, map, Option, None, is_some, slice_get, slice_set, bytes_eq}
 use Rattle.std.specs.Option.{option_map_or}
-use Rattle.std.specs.Map.{lookup}
+use Rattle.std.specs.List.{AllByRecursion, IsDistinct}
+use Rattle.std.specs.Map.{keys_of, lookup}
 use Rattle.salt_value.specs.declared.outcome.Outcome.{Outcome}
 use Rattle.salt_value.specs.declared.outcome.Row.{Row}
 use Rattle.salt_wire.specs.declared.message.Job.{Job}
@@ -19,6 +20,10 @@ stored_jobs store = map (λ stored. stored.job) store
 -- a job is later than the last one of a store
 abbrev pub is_later_in : List StoredJob → Job → Bool
 is_later_in store job = is_later (stored_jobs store) job
+
+-- no minion has returned a job twice
+abbrev pub ReturnOnce : List StoredJob → Type 0
+ReturnOnce store = AllByRecursion (λ stored. IsDistinct bytes_eq (keys_of stored.returns)) store
 
 -- what this minion returned of a stored job
 abbrev pub outcome_in : List ℕ → StoredJob → Option Outcome

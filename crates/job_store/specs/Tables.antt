@@ -1,7 +1,8 @@
 -- What a store keeps: the jobs, and for each a table of its returns.
-use Rattle.std.specs.Prelude.{◌≡◌, ℕ, ◌<◌, ◌^◌, IsTrue, List, [], ◌∷◌, ◌++◌, length, map, zip}
+use Rattle.std.specs.Prelude.{◌≡◌, ℕ, ◌<◌, ◌^◌, IsTrue, List, [], ◌∷◌, ◌++◌, length, map, zip, bytes_eq}
+use Rattle.std.specs.List.{AllByRecursion}
 use Rattle.std.specs.declared.vec.Vec.{Vec}
-use Rattle.indexmap.specs.IndexMap.{IndexMap}
+use Rattle.indexmap.specs.IndexMap.{IndexMap, IsUnique}
 use Rattle.salt_value.specs.declared.outcome.Outcome.{Outcome}
 use Rattle.salt_wire.specs.declared.message.Job.{Job}
 use Rattle.minion_core.specs.Flat.{is_rising}
@@ -19,11 +20,12 @@ stored_with p = record { job = p.0; returns = p.1.entries }
 abbrev pub store_of : {S : Type 0} → List Job → List (ReturnTable S) → List StoredJob
 store_of jobs tables = map stored_with (zip jobs tables)
 
--- Each job has a table, the jids rise strictly, and the jobs are counted in 32 bits. No public contract cites it.
+-- Each job has a table, the jids rise strictly, the jobs are counted in 32 bits, and no table has an id twice. No public contract cites it.
 pub record AreStored {S : Type 0} (jobs : List Job) (tables : List (ReturnTable S)) : Type 0 where
   pub paired : length tables ≡ length jobs
   pub rising : IsTrue (is_rising jobs)
   pub few : length jobs < 2 ^ 32
+  pub once : AllByRecursion (λ table. IsUnique bytes_eq table) tables
 
 -- There is an empty table more, after the others. No public contract cites it.
 abbrev pub HasEmptyMore : {S : Type 0} → List (ReturnTable S) → List (ReturnTable S) → Type 0

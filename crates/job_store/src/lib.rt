@@ -4,7 +4,9 @@
 #![tactic(auto)]
 
 mod faults;
+mod laws;
 mod store;
 
 pub use faults::{AddFault, PutFault};
+pub use laws::outcomes_by_steps;
 pub use store::JobStore;

@@ -1,9 +1,9 @@
 //! A store of jobs, and the calls on it.
 ghost use Rattle.std.specs.Prelude.{◌≡◌, ◌==◌, ◌↔◌, ◌<◌, ◌≤◌, ◌^◌, ◌∷◌, [], ◌++◌, IsTrue, IsFalse, None, Err, length, position, slice_get, bytes_eq, OnOk, OnErr};
 ghost use Rattle.std.specs.Option.{option_copied};
-ghost use Rattle.indexmap.specs.IndexMap.{get};
+ghost use Rattle.indexmap.specs.IndexMap.{get, IsUnique};
 ghost use Rattle.minion_core.specs.Flat as flat;
-ghost use Rattle.job_store.specs.Store.{stored_jobs, stored_outcome, has_outcome, is_later_in, with_job, with_return};
+ghost use Rattle.job_store.specs.Store.{ReturnOnce, stored_jobs, stored_outcome, has_outcome, is_later_in, with_job, with_return};
 ghost use Rattle.job_store.specs.Tables.{AreStored, HasEmptyMore, HasJobMore, KeepsStore};
 ghost use Rattle.job_store.specs.declared.faults.AddFault.TheVariants.{NotLater};
 ghost use Rattle.job_store.specs.declared.faults.PutFault.TheVariants.{NoJob, Twice};
@@ -84,10 +84,11 @@ impl JobStore {
         }
     }
 
-    /// The jobs in order. Their jids rise.
+    /// The jobs in order. Their jids rise, and no minion has returned one twice.
     pub fn jobs(&self) -> &[Job]
         ensures value { result.now ≡ stored_jobs self.now }
         ensures rising { IsTrue (flat.is_rising (stored_jobs self.now)) }
+        ensures once { ReturnOnce self.now }
     {
         self.jobs.as_slice()
     }
@@ -197,6 +198,7 @@ fn push_return(table: &mut IndexMap<MinionId, Outcome>, row: Row) -> Result<(), 
     requires absent { get bytes_eq table.old row.id ≡ None }
     ensures ok { OnOk result (table.new.entries ≡ table.old.entries ++ (row.id, row.outcome) ∷ []) }
     ensures err { OnErr result (table.new.entries ≡ table.old.entries) }
+    ensures unique { IsUnique bytes_eq table.new }
 {
     match table.insert(row.id, row.outcome) {
         Ok(_) => Ok(()),

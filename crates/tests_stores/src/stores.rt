@@ -1,6 +1,6 @@
 //! Jobs that are added to a store, what minions return of them, and what is found there.
 use crate::made::{FAILED, id, jid, job, row};
-use job_store::{AddFault, JobStore, PutFault};
+use job_store::{AddFault, JobStore, PutFault, outcomes_by_steps};
 use std::alloc::Global;
 use std::process::Abort;
 
@@ -130,6 +130,7 @@ fn a_minion_returns_a_job_once(rt: HostRuntime) {
     let mut store = JobStore::new(alloc);
     adds(&rt, alloc, &mut store, &ADDED);
     puts(&rt, &mut store, &PUT);
+    outcomes_by_steps();
     has_outcomes(&rt, &store, &OUTCOMES);
     has_jids(&rt, &store, &THERE);
 }

@@ -13,4 +13,4 @@ pub returns-in-Ok-clause-stored : goal.returns-in-Ok-clause-stored
 returns-in-Ok-clause-stored c =
     let more = c.in-Ok.ensures.tables in
     let later : is_later c.args.jobs.now.items c.args.job ≡ true = grind (arith, common_steps, c.is_later.ensures.value, c.as_slice.ensures.value, c.if-not-is_later.false) in
-    rw (c.in-Ok.ensures.jobs, more.1) (stored_push _ _ c.requires.stored c.args.job more.0 later c.requires.room)
+    rw (c.in-Ok.ensures.jobs, more.1) (stored_push _ _ c.requires.stored c.args.job more.0 more.2 later c.requires.room)

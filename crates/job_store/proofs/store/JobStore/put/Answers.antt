@@ -1,6 +1,6 @@
 use Rattle.std.proofs.Common.{◌≡◌, ◌<◌, ◌∙◌, sym, refl, arith, length, slice_get, Some}
 use Rattle.std.proofs.lemmas.Option.{slice_get_read}
-use Rattle.job_store.proofs.Stores.{count_of, outcome_some, none_copied, return_more, return_kept}
+use Rattle.job_store.proofs.Stores.{count_of, outcome_some, none_copied, return_more, return_kept, stored_set}
 use Rattle.job_store.proofs.store.JobStore.put.Goals.{in-Ok, in-Err}
 use Rattle.job_store.proofs.store.JobStore.put.Goals as goal
 
@@ -37,3 +37,6 @@ returns-clause-err c =
       | in-Ok w ↦ rw w.result-is tt
       | in-Err w ↦ rw (w.result-is, ← c.self.view_is) (return_kept _ _ c.args.seq c.index_mut.result.now c.push_return.new.table at w.in-Err.ensures.err)
     ]
+
+pub invariant_of-self : goal.invariant_of-self
+invariant_of-self c = stored_set _ _ c.self.invariant c.args.seq c.push_return.new.table c.push_return.ensures.unique
