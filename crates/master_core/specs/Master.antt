@@ -1,5 +1,5 @@
 -- What a master keeps of its records: the jobs with their returns, and the log of each minion below it.
-use Rattle.std.specs.Prelude.{◌≡◌, ◌⊎◌, ◌<◌, ◌+◌, ◌^◌, ℕ, IsTrue, IsFalse, Unit, List, [], length, position, Option, is_some, bytes_eq}
+use Rattle.std.specs.Prelude.{◌≡◌, ◌⊎◌, ◌<◌, ◌+◌, ◌^◌, ℕ, IsTrue, IsFalse, List, [], length, position, Option, is_some, bytes_eq}
 use Rattle.std.specs.Option.{option_map_or}
 use Rattle.salt_wire.specs.declared.message.Job.{Job}
 use Rattle.salt_wire.specs.declared.message.Entry.{Entry}
