@@ -67,19 +67,19 @@ pub record IsNewReturn (id : List ℕ) (seq : ℕ) (store : List StoredJob) : Ty
   pub held : seq < length store
   pub first : IsFalse (has_outcome store seq id)
 
--- an entry of the minion with this id is no return, or a new one
-abbrev pub IsNewIn : List ℕ → Entry → List StoredJob → Type 0
-IsNewIn id (Return seq outcome) store = IsNewReturn id seq store
-IsNewIn id (Fired event) store = Unit {0}
-IsNewIn id (Start boot) store = Unit {0}
-IsNewIn id (Mine seq mine grains pillar) store = Unit {0}
+-- an entry of the minion with this id that is a new return, or no return
+abbrev pub IsNewEntry : List ℕ → Entry → List StoredJob → Type 0
+IsNewEntry id (Return seq outcome) store = IsNewReturn id seq store
+IsNewEntry id (Fired event) store = Unit {0}
+IsNewEntry id (Start boot) store = Unit {0}
+IsNewEntry id (Mine seq mine grains pillar) store = Unit {0}
 
 -- an entry that can be taken in: its minion is below, it is within the limits, that log has room, and a return is new
 pub record IsNextEntry (id : List ℕ) (entry : Entry) (s : MasterState) : Type 0 where
   pub below : IsTrue (is_some (place_in s.ids id))
   pub fits : EntryFits entry
   pub room : length (log_of_id id s) + 1 < 2 ^ 32
-  pub new : IsNewIn id entry s.store
+  pub new : IsNewEntry id entry s.store
 
 -- a record that can be taken in: its job is the next one, its entry can be taken in, or it has neither
 abbrev pub IsRightFor : Deed → MasterState → Type 0

@@ -1,10 +1,10 @@
 //! What a master keeps, and the calls on it.
-ghost use Rattle.std.specs.Prelude.{◌≡◌, ◌<◌, ◌+◌, ◌^◌, length, is_some, bytes_eq, IsTrue, IsFalse, IfOk, IfSome, OnOk, OnErr};
+ghost use Rattle.std.specs.Prelude.{◌≡◌, ◌<◌, ◌+◌, ◌^◌, length, bytes_eq, All, IfOk, IfSome, OnOk, OnErr};
 ghost use Rattle.std.specs.List.{IsDistinct};
 ghost use Rattle.salt_wire.specs.Limits.{EntryFits};
-ghost use Rattle.job_store.specs.Store.{has_outcome, with_job, with_return};
+ghost use Rattle.job_store.specs.Store.{with_job, with_return};
 ghost use Rattle.up_logs.specs.UpLogs.{log_at, with_entry};
-ghost use Rattle.master_core.specs.Master.{place_in, log_of_id, new_master, master_after, store_after, IsRightFor, IsCutShort, IsNewIn, IsNewReturn, IsNextJob};
+ghost use Rattle.master_core.specs.Master.{place_in, log_of_id, new_master, master_after, store_after, IsRightFor, IsCutShort, IsNewEntry, IsNewReturn, IsNextJob};
 ghost use Rattle.master_core.specs.Index.{IsIndexOf, IsKeptOrPut};
 
 use indexmap::IndexMap;
@@ -71,8 +71,7 @@ impl MasterCore {
         ensures err { OnErr result (IsCutShort deed self.old self.new) }
     {
         match deed {
-            Deed::Publish { job } => add_job(&mut self.store, job),
-            Deed::Intake { job } => add_job(&mut self.store, job),
+            Deed::Publish { job } | Deed::Intake { job } => add_job(&mut self.store, job),
             Deed::Up { minion, entry } => match self.place(&minion) {
                 Some(at) => take_entry(self.alloc, &mut self.store, &mut self.ups, at, minion, entry),
                 None => unreachable!(),
@@ -91,7 +90,7 @@ impl MasterCore {
     /// The logs of the minions below, in the order of their places.
     pub fn ups(&self) -> &UpLogs
         ensures value { result.now ≡ self.now.logs }
-        ensures count { length result.now ≡ length self.now.ids }
+        ensures paired { length self.now.logs ≡ length self.now.ids }
     {
         &self.ups
     }
@@ -107,9 +106,10 @@ impl MasterCore {
         }
     }
 
-    /// The log of the minion with this id, without an entry where that minion isn't below.
+    /// The log of the minion with this id, each entry within the limits of messages; without an entry where that minion isn't below.
     pub fn log(&self, id: &MinionId) -> &[Entry]
         ensures value { result.now ≡ log_of_id id.now self.now }
+        ensures fits { All EntryFits (log_of_id id.now self.now) }
     {
         match self.place(id) {
             Some(place) => self.ups.entries(place),
@@ -168,7 +168,7 @@ fn put_return(
     id: MinionId,
     entry: &Entry,
 ) -> Result<(), AllocError>
-    requires new { IsNewIn id entry.now store.old }
+    requires new { IsNewEntry id entry.now store.old }
     ensures ok { OnOk result (store.new ≡ store_after id entry.now store.old) }
     ensures err { OnErr result (store.new ≡ store.old) }
 {
@@ -193,7 +193,7 @@ fn take_entry(
     requires place { place < length ups.old }
     requires room { length (log_at ups.old place) + 1 < 2 ^ 32 }
     requires fits { EntryFits entry }
-    requires new { IsNewIn id entry store.old }
+    requires new { IsNewEntry id entry store.old }
     ensures store { OnOk result (store.new ≡ store_after id entry store.old) }
     ensures logs { OnOk result (ups.new ≡ with_entry place entry ups.old) }
     ensures err_store { OnErr result (IsKeptOrPut id entry store.old store.new) }
