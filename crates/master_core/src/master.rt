@@ -73,7 +73,14 @@ impl MasterCore {
         match deed {
             Deed::Publish { job } | Deed::Intake { job } => add_job(&mut self.store, job),
             Deed::Up { minion, entry } => match self.place(&minion) {
-                Some(at) => take_entry(self.alloc, &mut self.store, &mut self.ups, at, minion, entry),
+                Some(at) => take_entry(
+                    self.alloc,
+                    &mut self.store,
+                    &mut self.ups,
+                    at,
+                    minion,
+                    entry,
+                ),
                 None => unreachable!(),
             },
             Deed::Fire { .. } | Deed::React { .. } | Deed::Boot | Deed::Done { .. } => Ok(()),

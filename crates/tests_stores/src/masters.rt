@@ -13,6 +13,7 @@ use std::process::Abort;
 
 // The moments of the jobs that are published, and then of those that are taken in.
 static PUBLISHED: [u64; 2] = [10, 20];
+
 static TAKEN: [u64; 1] = [30];
 
 // Returns of jobs by minions with their retcodes.
@@ -29,7 +30,11 @@ static OUTCOMES: [(u32, &str, Option<u8>); 6] = [
 ];
 
 // A minion, its place, and how many entries its log has then, a start of the minion m1 before its return.
-static LOGS: [(&str, Option<u32>, usize); 3] = [("m1", Some(1), 2), ("m2", Some(0), 2), ("m3", None, 0)];
+static LOGS: [(&str, Option<u32>, usize); 3] = [
+    ("m1", Some(1), 2),
+    ("m2", Some(0), 2),
+    ("m3", None, 0),
+];
 
 // The starts that the first entries of the logs tell, 0 where there is none.
 static STARTS: [(&str, u32); 3] = [("m1", 9), ("m2", 0), ("m3", 0)];
@@ -150,7 +155,11 @@ fn retcode_of(rt: &impl Abort, core: &MasterCore, seq: u32, minion: &str) -> Opt
 
 fn has_outcomes(rt: &impl Abort, core: &MasterCore, rows: &[(u32, &'static str, Option<u8>)]) {
     for (seq, minion, want) in rows {
-        assert_eq!(rt; retcode_of(rt, core, *seq, minion), *want, "at {seq} {minion}");
+        assert_eq!(rt;
+            retcode_of(rt, core, *seq, minion),
+            *want,
+            "at {seq} {minion}"
+        );
     }
 }
 
@@ -158,7 +167,11 @@ fn has_logs(rt: &impl Abort, core: &MasterCore, rows: &[(&'static str, Option<u3
     assert_eq!(rt; core.ups().minions(), 2);
     for (minion, place, count) in rows {
         let id = id(rt, minion);
-        assert_eq!(rt; (core.place(&id), core.log(&id).len()), (*place, *count), "of {minion}");
+        assert_eq!(rt;
+            (core.place(&id), core.log(&id).len()),
+            (*place, *count),
+            "of {minion}"
+        );
     }
 }
 
@@ -172,7 +185,11 @@ fn first_start(log: &[Entry]) -> u32 {
 
 fn has_starts(rt: &impl Abort, core: &MasterCore, rows: &[(&'static str, u32)]) {
     for (minion, boot) in rows {
-        assert_eq!(rt; first_start(core.log(&id(rt, minion))), *boot, "of {minion}");
+        assert_eq!(rt;
+            first_start(core.log(&id(rt, minion))),
+            *boot,
+            "of {minion}"
+        );
     }
 }
 
