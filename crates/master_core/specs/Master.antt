@@ -57,12 +57,12 @@ master_after (React items) s = s
 master_after Boot s = s
 master_after (Done seq changed entries) s = s
 
--- a job that a store can take: it is later than the last one, and there are fewer than 4,294,967,295
+-- a job that a store can take: it is later than the last one, and the store has fewer than 4,294,967,295 jobs
 pub record IsNextJob (job : Job) (store : List StoredJob) : Type 0 where
   pub later : IsTrue (is_later_in store job)
   pub room : length store < 4294967295
 
--- a return of a job with this number that a store holds, and that the minion with this id has not returned
+-- a new return by the minion with this id: the store has a job with this number, and the minion has not returned it
 pub record IsNewReturn (id : List ℕ) (seq : ℕ) (store : List StoredJob) : Type 0 where
   pub held : seq < length store
   pub first : IsFalse (has_outcome store seq id)
@@ -74,14 +74,14 @@ IsNewEntry id (Fired event) store = Unit {0}
 IsNewEntry id (Start boot) store = Unit {0}
 IsNewEntry id (Mine seq mine grains pillar) store = Unit {0}
 
--- an entry that can be taken in: its minion is below, it is within the limits, that log has room, and a return is new
+-- an entry that can be taken in: its minion is below, it is within the limits, its log has room, and it is no second return
 pub record IsNextEntry (id : List ℕ) (entry : Entry) (s : MasterState) : Type 0 where
   pub below : IsTrue (is_some (place_in s.ids id))
   pub fits : EntryFits entry
   pub room : length (log_of_id id s) + 1 < 2 ^ 32
   pub new : IsNewEntry id entry s.store
 
--- a record that can be taken in: its job is the next one, its entry can be taken in, or it has neither
+-- a record that can be taken in: its job can be added, its entry can be taken in, or it has neither
 abbrev pub IsRightFor : Deed → MasterState → Type 0
 IsRightFor (Publish job) s = IsNextJob job s.store
 IsRightFor (Intake job) s = IsNextJob job s.store
@@ -101,6 +101,6 @@ master_with_return (React items) s = s
 master_with_return Boot s = s
 master_with_return (Done seq changed entries) s = s
 
--- what want of memory leaves of a record: all is as before, or its return alone was put to its job
+-- what want of memory leaves of a record: all is as before, or its return alone was put to its job, and its log has no entry more
 abbrev pub IsCutShort : Deed → MasterState → MasterState → Type 0
 IsCutShort deed old new = (new ≡ old) ⊎ (new ≡ master_with_return deed old)

@@ -1,5 +1,4 @@
 use Rattle.std.proofs.Common.{List, ℕ, ◌∙◌, sym, ap, cond, Some, Option, bytes_eq}
-use Rattle.indexmap.specs.IndexMap.{get}
 use Rattle.std.proofs.lemmas.Option.{slice_get-get_or}
 use Rattle.master_core.proofs.Places.{place_more}
 use Rattle.master_core.proofs.master.index.Goals as goal
