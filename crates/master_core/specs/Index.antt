@@ -1,10 +1,9 @@
 -- What a master keeps beside its state: the place of each minion.
-use Rattle.std.specs.Prelude.{ℕ, ◌≡◌, ◌⊎◌, List, length, bytes_eq}
+use Rattle.std.specs.Prelude.{ℕ, ◌≡◌, List, length, bytes_eq}
 use Rattle.std.specs.List.{IsDistinct}
 use Rattle.indexmap.specs.IndexMap.{IndexMap, get}
 use Rattle.salt_wire.specs.declared.message.Entry.{Entry}
-use Rattle.job_store.specs.Store.{StoredJob}
-use Rattle.master_core.specs.Master.{place_in, store_after}
+use Rattle.master_core.specs.Master.{place_in}
 
 -- Each id is found at its place, and no other one is found. No public contract cites it.
 abbrev pub IsIndexOf : {S : Type 0} → List (List ℕ) → IndexMap (List ℕ) ℕ S → Type 0
@@ -15,7 +14,3 @@ pub record AreIndexedLogs {S : Type 0} (ids : List (List ℕ)) (places : IndexMa
   pub found : IsIndexOf ids places
   pub distinct : IsDistinct bytes_eq ids
   pub paired : length logs ≡ length ids
-
--- The store is as before, or the return alone was put to its job. No public contract cites it.
-abbrev pub IsKeptOrPut : List ℕ → Entry → List StoredJob → List StoredJob → Type 0
-IsKeptOrPut id entry old new = (new ≡ old) ⊎ (new ≡ store_after id entry old)

@@ -1,5 +1,5 @@
 -- What a master keeps of its records: the jobs with their returns, and the log of each minion below it.
-use Rattle.std.specs.Prelude.{◌≡◌, ◌⊎◌, ◌<◌, ◌+◌, ◌^◌, ℕ, IsTrue, IsFalse, List, [], length, position, Option, is_some, bytes_eq}
+use Rattle.std.specs.Prelude.{◌<◌, ◌+◌, ◌^◌, ℕ, IsTrue, IsFalse, List, [], length, position, Option, is_some, bytes_eq}
 use Rattle.std.specs.Option.{option_map_or}
 use Rattle.salt_wire.specs.declared.message.Job.{Job}
 use Rattle.salt_wire.specs.declared.message.Entry.{Entry}
@@ -90,17 +90,3 @@ IsRightFor (Fire event) s = Unit {0}
 IsRightFor (React items) s = Unit {0}
 IsRightFor Boot s = Unit {0}
 IsRightFor (Done seq changed entries) s = Unit {0}
-
--- the state with the return of a record put to its job, and no entry more
-abbrev pub master_with_return : Deed → MasterState → MasterState
-master_with_return (Publish job) s = s
-master_with_return (Intake job) s = s
-master_with_return (Up minion entry) s = record s { store = store_after minion entry s.store }
-master_with_return (Fire event) s = s
-master_with_return (React items) s = s
-master_with_return Boot s = s
-master_with_return (Done seq changed entries) s = s
-
--- what want of memory leaves of a record: all is as before, or its return alone was put to its job, and its log has no entry more
-abbrev pub IsCutShort : Deed → MasterState → MasterState → Type 0
-IsCutShort deed old new = (new ≡ old) ⊎ (new ≡ master_with_return deed old)

@@ -2,10 +2,11 @@
 ghost use Rattle.std.specs.Prelude.{◌≡◌, ◌<◌, ◌+◌, ◌^◌, length, bytes_eq, All, IfOk, IfSome, OnOk, OnErr};
 ghost use Rattle.std.specs.List.{IsDistinct};
 ghost use Rattle.salt_wire.specs.Limits.{EntryFits};
+ghost use Rattle.salt_wire.specs.declared.message.Entry.TheVariants.{Return};
 ghost use Rattle.job_store.specs.Store.{with_job, with_return};
 ghost use Rattle.up_logs.specs.UpLogs.{log_at, with_entry};
-ghost use Rattle.master_core.specs.Master.{place_in, log_of_id, new_master, master_after, store_after, IsRightFor, IsCutShort, IsNewEntry, IsNewReturn, IsNextJob};
-ghost use Rattle.master_core.specs.Index.{IsIndexOf, IsKeptOrPut};
+ghost use Rattle.master_core.specs.Master.{place_in, log_of_id, new_master, master_after, store_after, IsRightFor, IsNewEntry, IsNewReturn, IsNextJob};
+ghost use Rattle.master_core.specs.Index.{IsIndexOf};
 
 use indexmap::IndexMap;
 use job_store::{AddFault, JobStore, PutFault};
@@ -64,11 +65,11 @@ impl MasterCore {
     /// Takes a record in. A published job, or one that was taken in, is later than the last one, and there are fewer than 4,294,967,295
     /// jobs. An entry is one of a minion below and within the limits of messages, that minion's log has fewer than 4,294,967,295 entries,
     /// and a return names a job that is there and that the minion has not returned. Other records leave all as it is. After an error all
-    /// is as before, but that the return of the record may be there without its entry in the log.
+    /// is as before.
     pub fn apply(&mut self, deed: Deed) -> Result<(), AllocError>
         requires right { IsRightFor deed self.old }
         ensures ok { OnOk result (self.new ≡ master_after deed self.old) }
-        ensures err { OnErr result (IsCutShort deed self.old self.new) }
+        ensures err { OnErr result (self.new ≡ self.old) }
     {
         match deed {
             Deed::Publish { job } | Deed::Intake { job } => add_job(&mut self.store, job),
@@ -168,27 +169,36 @@ fn put_row(store: &mut JobStore, seq: u32, row: Row) -> Result<(), AllocError>
     }
 }
 
-// The return of a minion put to its job, where the entry is one.
-fn put_return(
+// A return in its minion's log and put to its job, or neither.
+fn take_return(
     alloc: Global,
     store: &mut JobStore,
-    id: MinionId,
-    entry: &Entry,
+    ups: &mut UpLogs,
+    place: u32,
+    seq: u32,
+    row: Row,
 ) -> Result<(), AllocError>
-    requires new { IsNewEntry id entry.now store.old }
-    ensures ok { OnOk result (store.new ≡ store_after id entry.now store.old) }
-    ensures err { OnErr result (store.new ≡ store.old) }
+    requires place { place < length ups.old }
+    requires room { length (log_at ups.old place) + 1 < 2 ^ 32 }
+    requires fits { EntryFits (Return seq row.outcome) }
+    requires new { IsNewReturn row.id seq store.old }
+    ensures store { OnOk result (store.new ≡ with_return seq row store.old) }
+    ensures logs { OnOk result (ups.new ≡ with_entry place (Return seq row.outcome) ups.old) }
+    ensures err_store { OnErr result (store.new ≡ store.old) }
+    ensures err_logs { OnErr result (ups.new ≡ ups.old) }
 {
-    match entry {
-        Entry::Return { seq, outcome } => {
-            let outcome = outcome.copy(alloc)?;
-            put_row(store, *seq, Row { id, outcome })
+    let outcome = row.outcome.copy(alloc)?;
+    ups.push(place, Entry::Return { seq, outcome })?;
+    match put_row(store, seq, row) {
+        Ok(()) => Ok(()),
+        Err(fault) => {
+            ups.pop(place);
+            Err(fault)
         }
-        Entry::Fired { .. } | Entry::Start { .. } | Entry::Mine { .. } => Ok(()),
     }
 }
 
-// A minion's return put to its job, and then its entry in the log at its place. No memory for the entry leaves the return there.
+// An entry in its minion's log, and where it is a return put to its job, or neither.
 fn take_entry(
     alloc: Global,
     store: &mut JobStore,
@@ -203,9 +213,33 @@ fn take_entry(
     requires new { IsNewEntry id entry store.old }
     ensures store { OnOk result (store.new ≡ store_after id entry store.old) }
     ensures logs { OnOk result (ups.new ≡ with_entry place entry ups.old) }
-    ensures err_store { OnErr result (IsKeptOrPut id entry store.old store.new) }
+    ensures err_store { OnErr result (store.new ≡ store.old) }
     ensures err_logs { OnErr result (ups.new ≡ ups.old) }
 {
-    put_return(alloc, store, id, &entry)?;
-    ups.push(place, entry)
+    match entry {
+        Entry::Return { seq, outcome } => take_return(
+            alloc,
+            store,
+            ups,
+            place,
+            seq,
+            Row { id, outcome },
+        ),
+        Entry::Fired { event } => ups.push(place, Entry::Fired { event }),
+        Entry::Start { boot } => ups.push(place, Entry::Start { boot }),
+        Entry::Mine {
+            seq,
+            mine,
+            grains,
+            pillar,
+        } => ups.push(
+            place,
+            Entry::Mine {
+                seq,
+                mine,
+                grains,
+                pillar,
+            },
+        ),
+    }
 }
