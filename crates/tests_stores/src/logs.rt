@@ -20,6 +20,14 @@ static SEEN: [Seen; 4] = [
     (3, 0, 0, 0),
 ];
 
+// What is seen at each place once the last entry of the logs at 1 and 2 is gone.
+static POPPED: [Seen; 4] = [
+    (0, 2, 1, 4294967295),
+    (1, 0, 0, 0),
+    (2, 2, 7, 8),
+    (3, 0, 0, 0),
+];
+
 // A start more in the log at a place.
 fn tell(rt: &impl Abort, logs: &mut UpLogs, minion: u32, boot: u32) {
     if minion >= logs.minions() {
@@ -36,6 +44,14 @@ fn tell_all(rt: &impl Abort, logs: &mut UpLogs, told: &[(u32, u32)]) {
     for (minion, boot) in told {
         tell(rt, logs, *minion, *boot);
     }
+}
+
+// The last entry of the log at a place is gone.
+fn pop(rt: &impl Abort, logs: &mut UpLogs, minion: u32) {
+    if minion >= logs.minions() {
+        panic!(rt; "{FAILED}");
+    }
+    logs.pop(minion);
 }
 
 // The start that an entry tells, and 0 where there is none.
@@ -73,6 +89,15 @@ fn each_entry_is_the_last_of_its_log(rt: HostRuntime) {
     let mut logs = UpLogs::new(rt.alloc(), 4).expect(&rt, FAILED);
     tell_all(&rt, &mut logs, &TOLD);
     has_logs(&rt, &logs, &SEEN);
+}
+
+#[test]
+fn the_last_entry_is_taken_away(rt: HostRuntime) {
+    let mut logs = UpLogs::new(rt.alloc(), 4).expect(&rt, FAILED);
+    tell_all(&rt, &mut logs, &TOLD);
+    pop(&rt, &mut logs, 1);
+    pop(&rt, &mut logs, 2);
+    has_logs(&rt, &logs, &POPPED);
 }
 
 #[test]

@@ -1,5 +1,5 @@
 -- The logs that a master keeps of the minions below it: a list of logs, in the order of the minions' places.
-use Rattle.std.specs.Prelude.{ℕ, ◌<◌, ◌^◌, List, [], ◌∷◌, ◌++◌, length, get_or, set, replicate, All}
+use Rattle.std.specs.Prelude.{ℕ, ◌<◌, ◌^◌, List, [], ◌∷◌, ◌++◌, ◌-◌, length, take, get_or, set, replicate, All}
 use Rattle.salt_wire.specs.declared.message.Entry.{Entry}
 use Rattle.salt_wire.specs.Limits.{EntryFits}
 
@@ -10,6 +10,14 @@ log_at logs i = get_or logs i []
 -- the logs with an entry more at the end of the log at place i
 abbrev pub with_entry : ℕ → Entry → List (List Entry) → List (List Entry)
 with_entry i entry logs = set logs i (log_at logs i ++ entry ∷ [])
+
+-- a log without its last entry
+abbrev pub without_last : List Entry → List Entry
+without_last log = take (length log - 1) log
+
+-- the logs without the last entry of the log at place i
+abbrev pub with_entry_less : ℕ → List (List Entry) → List (List Entry)
+with_entry_less i logs = set logs i (without_last (log_at logs i))
 
 -- n empty logs
 abbrev pub empty_logs : ℕ → List (List Entry)

@@ -1,7 +1,7 @@
 //! The logs that a master keeps of the minions below it.
 ghost use Rattle.std.specs.Prelude.{◌≡◌, ◌<◌, ◌+◌, ◌^◌, length, All, IfOk, OnOk, OnErr};
 ghost use Rattle.salt_wire.specs.Limits.{EntryFits};
-ghost use Rattle.up_logs.specs.UpLogs.{log_at, with_entry, empty_logs};
+ghost use Rattle.up_logs.specs.UpLogs.{log_at, with_entry, with_entry_less, without_last, empty_logs};
 
 use salt_wire::{Entries, Entry};
 use std::alloc::{AllocError, Global};
@@ -51,6 +51,14 @@ impl UpLogs {
         push_at(&mut self.logs, minion, entry)
     }
 
+    /// Takes the last entry of the log of the minion at a place below the number of logs away, if there is one.
+    pub fn pop(&mut self, minion: u32)
+        requires place { minion < length self.old }
+        ensures value { self.new ≡ with_entry_less minion self.old }
+    {
+        pop_at(&mut self.logs, minion);
+    }
+
     /// The log of the minion at a place below the number of logs, each entry within the limits of messages.
     pub fn entries(&self, minion: u32) -> &[Entry]
         requires place { minion < length self.now }
@@ -94,4 +102,20 @@ fn push_at(logs: &mut Vec<Entries>, at: u32, entry: Entry) -> Result<(), AllocEr
     ensures err { OnErr result (logs.new.items ≡ logs.old.items) }
 {
     logs[at as usize].push(entry)
+}
+
+// The last entry of a log is gone.
+#[tactic(auto, using(crate::proofs::Undo::but_last))]
+fn pop_last(log: &mut Entries)
+    ensures { log.new ≡ without_last log.old }
+{
+    let _ = log.pop();
+}
+
+// The last entry of the log at a place is gone.
+fn pop_at(logs: &mut Vec<Entries>, at: u32)
+    requires { at < length logs.old.items }
+    ensures { logs.new.items ≡ with_entry_less at logs.old.items }
+{
+    pop_last(&mut logs[at as usize]);
 }
