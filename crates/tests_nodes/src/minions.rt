@@ -7,7 +7,7 @@ ghost use Rattle.salt_wire.specs.Limits.{JobFits};
 use crate::made::{FAILED, HOLDERS, holdings, id, job, job_for};
 use exec_functions::Holdings;
 use flat_fleet::{FlatMinion, FlatReport, first_jobs_decide, flat_reports};
-use minion_core::{MinionCore, RunFault, does_hold, does_hold_with, flat_by_steps};
+use minion_core::{MinionCore, RunFault, does_hold, does_hold_with, flat_by_steps, job_record};
 use salt_value::{MinionId, Row, Value};
 use salt_wire::{Deed, Job};
 use std::alloc::{AllocError, Global};
@@ -48,18 +48,30 @@ fn a_minion_keeps_what_its_jobs_change(rt: HostRuntime) {
     let me = id(&rt, "m1");
     let count = job(&rt, alloc, 1, "data.incr", &["n"]);
     flat_by_steps();
-    run_all(&rt, &mut minion, &me, &count);
+    run_all(&rt, alloc, &mut minion, &me, &count);
     see_minion(&rt, &minion);
     assert!(rt; does_hold(alloc, &count, &me, minion.held()).expect(&rt, FAILED));
 }
 
 // A start, and the same job twice.
-fn run_all(rt: &impl Abort, minion: &mut MinionCore, me: &MinionId, count: &Job)
+fn run_all(rt: &impl Abort, alloc: Global, minion: &mut MinionCore, me: &MinionId, count: &Job)
     requires { JobFits count.now }
 {
     take_in(rt, minion, &Deed::Boot);
     run_one(rt, minion, me, count);
-    run_one(rt, minion, me, count);
+    record_one(rt, alloc, minion, me, count);
+}
+
+// The record of the next job, made of what the minion lends.
+fn record_one(rt: &impl Abort, alloc: Global, minion: &mut MinionCore, me: &MinionId, count: &Job)
+    requires { JobFits count.now }
+{
+    match job_record(alloc, minion.jobs(), count, me, minion.held()) {
+        Ok(deed) => {
+            take_in(rt, minion, &deed);
+        }
+        Err(_) => panic!(rt; "{FAILED}"),
+    }
 }
 
 fn run_one(rt: &impl Abort, minion: &mut MinionCore, me: &MinionId, count: &Job)

@@ -1,5 +1,5 @@
 //! Texts, pairs and values.
-use salt_value::{Fields, Items, Text, Value};
+use salt_value::{Fields, Items, Text, Value, copy_items};
 use std::alloc::{AllocError, Global};
 use std::process::Abort;
 
@@ -110,4 +110,34 @@ fn a_child_stands_under_its_key(rt: HostRuntime) {
     stand_under(&rt, &fields, &value);
     stand_under(&rt, &fields, &value.copy(rt.alloc()).expect(&rt, "memory"));
     has_no_child(&rt, &Value::Null);
+}
+
+// The items of a list in memory of their own.
+fn items_again(alloc: Global, value: &Value) -> Option<Items> {
+    match value {
+        Value::List(items) => copy_items(alloc, items.as_slice()).ok(),
+        _ => None,
+    }
+}
+
+// Are they -3 and null?
+fn are_the_items(rt: &impl Abort, items: &Option<Items>) {
+    match items {
+        Some(items) => {
+            let items = items.as_slice();
+            let seen = (
+                items.len(),
+                number_in(items.first()),
+                number_in(items.last()),
+            );
+            assert_eq!(rt; seen, (2, Some(-3), None));
+        }
+        None => panic!(rt; "memory"),
+    }
+}
+
+#[test]
+fn copied_items_are_equal(rt: HostRuntime) {
+    let list = list_of(rt.alloc(), Value::Int(-3), Value::Null).expect(&rt, "memory");
+    are_the_items(&rt, &items_again(rt.alloc(), &list));
 }
