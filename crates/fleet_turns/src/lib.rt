@@ -1,4 +1,4 @@
-//! The turns of a schedule: what happens in a network of nodes, one line at a time. Which turns a fleet has is told by `IsTurn`.
+//! The turns of a schedule: what happens in a network of nodes, one line at a time. Which turns a fleet has is told by `Turn::is_of`.
 //!
 //! ```text
 //! let turn = Turn::Send { from: NodeId::TOP, to: NodeId::new(1), count: 1 };

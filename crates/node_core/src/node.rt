@@ -64,6 +64,7 @@ impl Node {
     ghost use Rattle.fleet_config.specs.Tree.{member};
     ghost use Rattle.node_core.specs.Node.{NodeState, Receives, AreApart, pending, pending_down, pending_up, first_node, with_record, IsTakeFault, runs_next, is_neighbour, may_take, may_record, IsCounted};
     ghost use Rattle.node_core.specs.Records.{jobs, log, jobs_held};
+    ghost use Rattle.node_core.specs.Counts.{known_count};
     ghost use Rattle.minion_core.specs.Flat.{return_of};
     ghost use Rattle.salt_wire.specs.Limits.{Within, EntryFits};
     ghost use Rattle.salt_wire.specs.declared.deed.Deed.TheVariants.{Publish, Intake, Up, Boot};
@@ -181,10 +182,11 @@ impl Node {
         Ok(jid)
     }
 
-    /// A master's jobs in order.
+    /// A master's jobs in order, each within the limits of messages.
     pub fn jobs(&self) -> &[Job]
         ensures value { result.now ≡ jobs self.now.records }
         ensures few { length result.now ≤ most_jobs }
+        ensures fits { All JobFits result.now }
     {
         self.jobs.as_slice()
     }
@@ -194,6 +196,46 @@ impl Node {
         ensures value { option_copied result ≡ return_of seq (log id.now self.now.records) }
     {
         return_of(seq, self.logs.entries(id))
+    }
+
+    /// How many jobs it holds.
+    pub fn jobs_held(&self) -> u32
+        ensures value { result ≡ jobs_held self.now.records }
+    {
+        self.held
+    }
+
+    /// The log that it has of a minion, each entry within the limits of messages.
+    pub fn log(&self, id: &MinionId) -> &[Entry]
+        ensures value { result.now ≡ log id.now self.now.records }
+        ensures fits { All EntryFits result.now }
+        ensures few { length result.now < 2 ^ 32 }
+    {
+        self.logs.entries(id)
+    }
+
+    /// What a minion holds. A master holds nothing.
+    pub fn holdings(&self) -> Option<&Holdings>
+        ensures value { option_copied result ≡ (if self.now.minion then Some self.now.held else None) }
+    {
+        match &self.logs {
+            Logs::Own(core) => Some(core.held()),
+            Logs::Below(_) => None,
+        }
+    }
+
+    /// How many jobs a child is known to hold.
+    pub fn known_jobs(&self, child: NodeId) -> u32
+        ensures value { result ≡ known_count self.now.known_jobs child }
+    {
+        self.known_jobs.known(child)
+    }
+
+    /// How many entries of a minion the parent is known to hold.
+    pub fn known_ups(&self, minion: NodeId) -> u32
+        ensures value { result ≡ known_count self.now.known_ups minion }
+    {
+        self.known_ups.known(minion)
     }
 
     // A record of a job that is published.

@@ -26,7 +26,8 @@ use Rattle.node_core.specs.Node.{NodeState, RunsBigPattern}
 use Rattle.node_core.specs.Publications.{Order, order, order_tree, tree_or_refusal}
 use Rattle.fleet_turns.specs.declared.turn.Turn.{Turn}
 use Rattle.fleet_turns.specs.declared.turn.Turn.TheVariants as t
-use Rattle.tree_world.specs.Network.{Network, node_at, top_jobs, start, after}
+use Rattle.tree_world.specs.Network.{Network, node_at, top_jobs, start}
+use Rattle.tree_world.specs.Runs.{after}
 use Rattle.tree_world.specs.Halts.{MeetsBigPattern, IsStepFault, NeverTooBig}
 use Rattle.tree_world.specs.declared.world.StepFault.{StepFault}
 use Rattle.tree_world.specs.declared.world.StepFault.TheVariants as step
@@ -107,6 +108,12 @@ turn_small f turns w (t.Deliver i) leaf fleet stand h told mine big =
     let s : IsSent f.tree w.nodes big.0 = all_at (IsSent f.tree w.nodes) w.packets i big.0 h.sent big.1 in
     packet_small f turns w fleet stand h told big.0.from big.0.to leaf big.0.message (node_at w.nodes big.0.to) s.fits big.2
 turn_small f turns w (t.Report jid) leaf fleet stand h told mine big = absurd big
+turn_small f turns w t.Settle leaf fleet stand h told mine big = absurd mine.1
+turn_small f turns w (t.Exit jid) leaf fleet stand h told mine big = absurd big
+turn_small f turns w t.Jobs leaf fleet stand h told mine big = absurd big
+turn_small f turns w t.Summary leaf fleet stand h told mine big = absurd big
+turn_small f turns w (t.Data node) leaf fleet stand h told mine big = absurd big
+turn_small f turns w (t.Counts node) leaf fleet stand h told mine big = absurd big
 turn_small f turns w (t.Packet i) leaf fleet stand h told mine big = absurd big
 
 all_mid : {X : Type 0} (P : X → Type 0) (xs : List X) (x : X) (ys : List X) → AllByRecursion P (xs ++ x ∷ ys) → P x

@@ -5,7 +5,8 @@ use Rattle.std.specs.List.{concat}
 use Rattle.fleet_config.specs.Fleet.{FleetConfig}
 use Rattle.fleet_turns.specs.declared.turn.Turn.{Turn}
 use Rattle.fleet_turns.specs.declared.turn.Turn.TheVariants.{Report}
-use Rattle.tree_world.specs.Network.{Network, node_at, start, after, after_all, top_jobs}
+use Rattle.tree_world.specs.Network.{Network, node_at, start, top_jobs}
+use Rattle.tree_world.specs.Runs.{after, after_all}
 use Rattle.tree_world.specs.Report.{report}
 use Rattle.tree_world.specs.Text.{line, printed_text, text_from, report_text, number_of}
 use Rattle.tree_laws.specs.Laws.{AscendById, IsReportFlat}

@@ -8,7 +8,8 @@ use Rattle.std.proofs.Common.{subst}
 use Rattle.std.proofs.Math.ListN.{drop_of_length-le}
 use Rattle.fleet_config.specs.Fleet.{FleetConfig}
 use Rattle.fleet_turns.specs.declared.turn.Turn.{Turn}
-use Rattle.tree_world.specs.Network.{Network, after}
+use Rattle.tree_world.specs.Network.{Network}
+use Rattle.tree_world.specs.Runs.{after}
 use Rattle.tree_world.specs.Text.{text_from, printed_text}
 
 drop_past : {X : Type 0} (xs : List X) (i : ℕ) → length xs ≤ i → drop i xs ≡ []

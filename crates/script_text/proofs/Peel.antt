@@ -5,7 +5,7 @@ use Rattle.std.specs.List.{AllByRecursion}
 use Rattle.std.proofs.lemmas.List.{append_cancel_left}
 use Rattle.fleet_config.specs.Fleet.{FleetConfig}
 use Rattle.fleet_turns.specs.declared.turn.Turn.{Turn}
-use Rattle.fleet_turns.specs.declared.turn.Turn.TheVariants.{Publish, Send, Deliver, Report, Packet}
+use Rattle.fleet_turns.specs.declared.turn.Turn.TheVariants.{Publish, Send, Deliver, Settle, Report, Exit, Jobs, Summary, Data, Counts, Packet}
 use Rattle.script_text.specs.Script.{MayStand, turn_line, id_line, minion_lines, top_lines}
 use Rattle.script_text.specs.Draft.{IsOnly}
 
@@ -28,6 +28,12 @@ not_end f (Publish moment kind tgt fun args) e = let h : 112 ≡ 37 = heads _ _ 
 not_end f (Send from to count) e = let h : 115 ≡ 37 = heads _ _ _ _ e in absurd (omega (arith, h))
 not_end f (Deliver i) e = let h : 100 ≡ 37 = heads _ _ _ _ e in absurd (omega (arith, h))
 not_end f (Report jid) e = let h : 114 ≡ 37 = heads _ _ _ _ e in absurd (omega (arith, h))
+not_end f Settle e = let h : 115 ≡ 37 = heads _ _ _ _ e in absurd (omega (arith, h))
+not_end f (Exit jid) e = let h : 101 ≡ 37 = heads _ _ _ _ e in absurd (omega (arith, h))
+not_end f Jobs e = let h : 106 ≡ 37 = heads _ _ _ _ e in absurd (omega (arith, h))
+not_end f Summary e = let h : 115 ≡ 37 = heads _ _ _ _ e in absurd (omega (arith, h))
+not_end f (Data node) e = let h : 100 ≡ 37 = heads _ _ _ _ e in absurd (omega (arith, h))
+not_end f (Counts node) e = let h : 99 ≡ 37 = heads _ _ _ _ e in absurd (omega (arith, h))
 not_end f (Packet i) e = let h : 112 ≡ 37 = heads _ _ _ _ e in absurd (omega (arith, h))
 
 pub same_id : (a b : List ℕ) → id_line a ≡ id_line b → a ≡ b

@@ -6,7 +6,7 @@ use Rattle.std.proofs.lemmas.List.{append_cancel_left, append_cancel_right}
 use Rattle.salt_value.specs.Reading.{Decodes}
 use Rattle.target_tree.specs.declared.kind.Kind.TheVariants.{Glob}
 use Rattle.fleet_turns.specs.declared.turn.Turn.{Turn}
-use Rattle.fleet_turns.specs.declared.turn.Turn.TheVariants.{Publish, Send, Deliver, Report, Packet}
+use Rattle.fleet_turns.specs.declared.turn.Turn.TheVariants.{Publish, Send, Deliver, Settle, Report, Exit, Jobs, Summary, Data, Counts, Packet}
 use Rattle.fleet_config.specs.Fleet.{FleetConfig}
 use Rattle.script_text.specs.Script.{MayStand, IsPattern, turn_line}
 use Rattle.script_text.specs.Fleet.{fleet_by, tree_by}
@@ -29,6 +29,12 @@ sent ids rest (Send a b n) v h = (
 )
 sent ids rest (Deliver i) v h = let k : 100 ≡ 115 = heads _ _ _ _ h in absurd (omega (arith, k))
 sent ids rest (Report jid) v h = let k : 114 ≡ 115 = heads _ _ _ _ h in absurd (omega (arith, k))
+sent ids rest Settle v h = absurd v.1
+sent ids rest (Exit jid) v h = absurd v.1
+sent ids rest Jobs v h = absurd v.1
+sent ids rest Summary v h = absurd v.1
+sent ids rest (Data node) v h = absurd v.1
+sent ids rest (Counts node) v h = absurd v.1
 sent ids rest (Packet i) v h = absurd v.1
 
 pub send_found : (ids : List (List ℕ)) (rest : List ℕ) (p : ℕ × (ℕ × ℕ)) → ReadsSending (tree_by ids) rest (Some p) → are_neighbours p.0 p.1.0 ≡ true
@@ -63,6 +69,12 @@ published f rest (Publish moment kind tgt fun args) v h = (
 published f rest (Send a b n) v h = let k : 115 ≡ 112 = heads _ _ _ _ h in absurd (omega (arith, k))
 published f rest (Deliver i) v h = let k : 100 ≡ 112 = heads _ _ _ _ h in absurd (omega (arith, k))
 published f rest (Report jid) v h = let k : 114 ≡ 112 = heads _ _ _ _ h in absurd (omega (arith, k))
+published f rest Settle v h = absurd v.1
+published f rest (Exit jid) v h = absurd v.1
+published f rest Jobs v h = absurd v.1
+published f rest Summary v h = absurd v.1
+published f rest (Data node) v h = absurd v.1
+published f rest (Counts node) v h = absurd v.1
 published f rest (Packet i) v h = absurd v.1
 
 pub publish_found : (f : FleetConfig) (rest : List ℕ) (p : ℕ × List ℕ) → Decodes IsPublication publication_text rest (Some p) → ReadsTurn f (codes "publish " ++ rest) (Some (ping p.0 p.1))

@@ -8,7 +8,7 @@ use Rattle.fleet_config.specs.Limits.{most_minions}
 use Rattle.fleet_config.specs.Tree.{id_of}
 use Rattle.fleet_config.specs.Fleet.{FleetConfig, flat_fleet}
 use Rattle.fleet_turns.specs.declared.turn.Turn.{Turn}
-use Rattle.fleet_turns.specs.declared.turn.Turn.TheVariants.{Publish, Send, Deliver, Report, Packet}
+use Rattle.fleet_turns.specs.declared.turn.Turn.TheVariants.{Publish, Send, Deliver, Settle, Report, Exit, Jobs, Summary, Data, Counts, Packet}
 use Rattle.fleet_turns.specs.Turns.{IsTurn}
 use Rattle.script_text.specs.declared.script.Script.{Script}
 use Rattle.script_text.specs.Lines.{lines_of, spaced_words}
@@ -47,12 +47,18 @@ most_pattern_bytes = 256
 abbrev pub IsPattern : List ℕ → Type 0
 IsPattern bytes = (0 < length bytes) × (length bytes ≤ most_pattern_bytes) × IsTrue (list_all is_pattern_byte bytes)
 
--- a publication is one of `test.ping` without arguments for a glob of ids, and no packet is printed
+-- a publication is one of `test.ping` without arguments for a glob of ids, and of the other turns a schedule may send, deliver and report
 abbrev pub IsBuilt : Turn → Type 0
 IsBuilt (Publish moment kind tgt fun args) = IsPattern tgt × (kind ≡ Glob) × (fun ≡ codes "test.ping") × (args ≡ [])
 IsBuilt (Send from to count) = Unit {0}
 IsBuilt (Deliver i) = Unit {0}
+IsBuilt Settle = ⊥
 IsBuilt (Report jid) = Unit {0}
+IsBuilt (Exit jid) = ⊥
+IsBuilt Jobs = ⊥
+IsBuilt Summary = ⊥
+IsBuilt (Data node) = ⊥
+IsBuilt (Counts node) = ⊥
 IsBuilt (Packet i) = ⊥
 
 -- a turn that a schedule of this fleet may have
@@ -68,7 +74,13 @@ abbrev pub turn_line : FleetConfig → Turn → List ℕ
 turn_line f (Publish moment kind tgt fun args) = spaced_words (codes "publish" ∷ decimal moment ∷ codes "glob" ∷ codes "test.ping" ∷ quoted_list tgt ∷ [])
 turn_line f (Send from to count) = spaced_words (codes "send" ∷ id_of f.tree from ∷ id_of f.tree to ∷ decimal count ∷ [])
 turn_line f (Deliver i) = spaced_words (codes "deliver" ∷ decimal i ∷ [])
+turn_line f Settle = codes "settle"
 turn_line f (Report jid) = spaced_words (codes "report" ∷ jid_text jid ∷ [])
+turn_line f (Exit jid) = spaced_words (codes "exit" ∷ jid_text jid ∷ [])
+turn_line f Jobs = codes "jobs"
+turn_line f Summary = codes "summary"
+turn_line f (Data node) = spaced_words (codes "data" ∷ id_of f.tree node ∷ [])
+turn_line f (Counts node) = spaced_words (codes "counts" ∷ id_of f.tree node ∷ [])
 turn_line f (Packet i) = spaced_words (codes "packet" ∷ decimal i ∷ [])
 
 -- the line of an id

@@ -49,6 +49,12 @@ fn told(turn: &Turn) -> (&'static str, u64, u64, u64) {
         ),
         Turn::Deliver { packet } => ("deliver", *packet, 0, 0),
         Turn::Report { .. } => ("report", 0, 0, 0),
+        Turn::Settle => ("settle", 0, 0, 0),
+        Turn::Exit { .. } => ("exit", 0, 0, 0),
+        Turn::Jobs => ("jobs", 0, 0, 0),
+        Turn::Summary => ("summary", 0, 0, 0),
+        Turn::Data { node } => ("data", u64::from(node.place()), 0, 0),
+        Turn::Counts { node } => ("counts", u64::from(node.place()), 0, 0),
         Turn::Packet { packet } => ("packet", *packet, 0, 0),
     }
 }

@@ -21,7 +21,8 @@ use Rattle.node_core.specs.Node.{NodeState, MessageResult, with_record, with_nex
 use Rattle.fleet_turns.specs.declared.turn.Turn.{Turn}
 use Rattle.fleet_turns.specs.declared.turn.Turn.TheVariants as kind
 use Rattle.fleet_turns.specs.Turns.{IsTurn}
-use Rattle.tree_world.specs.Network.{Network, node_at, start, top_jobs, after_receipt, after_delivery, after, after_all}
+use Rattle.tree_world.specs.Network.{Network, node_at, start, top_jobs, after_receipt, after_delivery}
+use Rattle.tree_world.specs.Runs.{after, after_all}
 use Rattle.tree_laws.specs.Invariant.{Holds}
 use Rattle.tree_laws.proofs.Records.{jobs_push}
 use Rattle.tree_laws.proofs.Calls.{at_same, at_other}
@@ -82,6 +83,11 @@ after_bound f (kind.Publish moment k tgt fun args) w some h =
 after_bound f (kind.Send from to count) w some h = h
 after_bound f (kind.Deliver i) w some h = subst (λ js. length js ≤ f.max_jobs) (sym (delivered_top f w i)) h
 after_bound f (kind.Report jid) w some h = h
+after_bound f (kind.Exit jid) w some h = h
+after_bound f kind.Jobs w some h = h
+after_bound f kind.Summary w some h = h
+after_bound f (kind.Data node) w some h = h
+after_bound f (kind.Counts node) w some h = h
 after_bound f (kind.Packet i) w some h = h
 
 run_bound : (f : FleetConfig) (turns : List Turn) (w : Network) → IsFleet f → AllByRecursion (IsTurn f) turns → Holds f.tree w

@@ -16,7 +16,8 @@ use Rattle.node_core.specs.Publications.{order}
 use Rattle.node_core.specs.Node.{NodeState, MessageResult, with_record, with_next_record, taken_in, after_message, stray_of, unless_stray, message_result}
 use Rattle.fleet_turns.specs.declared.turn.Turn.{Turn}
 use Rattle.fleet_turns.specs.declared.turn.Turn.TheVariants as kind
-use Rattle.tree_world.specs.Network.{Network, node_at, top_jobs, after_receipt, after_delivery, after, after_all}
+use Rattle.tree_world.specs.Network.{Network, node_at, top_jobs, after_receipt, after_delivery}
+use Rattle.tree_world.specs.Runs.{after, after_all}
 use Rattle.tree_laws.specs.Lists.{IsPrefix}
 use Rattle.tree_laws.proofs.Lists.{prefix_same, prefix_trans}
 use Rattle.tree_laws.proofs.Records.{jobs_prefix}
@@ -69,6 +70,11 @@ after_grows f (kind.Publish moment k tgt fun args) w =
 after_grows f (kind.Send from to count) w = λ i. prefix_same (node_at w.nodes i).records
 after_grows f (kind.Deliver i) w = delivered_grows f w i
 after_grows f (kind.Report jid) w = λ i. prefix_same (node_at w.nodes i).records
+after_grows f (kind.Exit jid) w = λ j. prefix_same (node_at w.nodes j).records
+after_grows f kind.Jobs w = λ j. prefix_same (node_at w.nodes j).records
+after_grows f kind.Summary w = λ j. prefix_same (node_at w.nodes j).records
+after_grows f (kind.Data node) w = λ j. prefix_same (node_at w.nodes j).records
+after_grows f (kind.Counts node) w = λ j. prefix_same (node_at w.nodes j).records
 after_grows f (kind.Packet i) w = λ j. prefix_same (node_at w.nodes j).records
 
 pub run_grows : (f : FleetConfig) (turns : List Turn) (w : Network) → Grew w (after_all f turns w)

@@ -21,7 +21,8 @@ use Rattle.exec_functions.specs.declared.holdings.Holdings.{Holdings}
 use Rattle.std.specs.Prelude.{min}
 use Rattle.fleet_turns.specs.declared.turn.Turn.{Turn}
 use Rattle.fleet_turns.specs.declared.turn.Turn.TheVariants as kind
-use Rattle.tree_world.specs.Network.{Network, node_at, start, top_jobs, with_node_at, with_packets, packet, sent_packets, after_receipt, after_delivery, after, after_all, most_sent}
+use Rattle.tree_world.specs.Network.{Network, node_at, start, top_jobs, with_node_at, with_packets, packet, sent_packets, after_receipt, after_delivery, most_sent}
+use Rattle.tree_world.specs.Runs.{after, after_all}
 use Rattle.fleet_turns.specs.Turns.{IsTurn}
 use Rattle.tree_laws.specs.Invariant.{Fits, IsSent, Names, IsNode, IsPair, IsReadableJob, Holds}
 use Rattle.tree_laws.proofs.Lists.{prefix_same, all_join, all_imply, all_at, all_map, all_take, at_drop}
@@ -153,6 +154,11 @@ after_step f (kind.Publish moment k tgt fun args) w fleet t h =
 after_step f (kind.Send from to count) w fleet t h = send_step f w from to count h t.0 t.1 (pending_fits f.tree from to (node_at w.nodes from) fleet.tree t.3)
 after_step f (kind.Deliver i) w fleet t h = delivered_step f w i fleet.tree h
 after_step f (kind.Report jid) w fleet t h = h
+after_step f (kind.Exit jid) w fleet t h = h
+after_step f kind.Jobs w fleet t h = h
+after_step f kind.Summary w fleet t h = h
+after_step f (kind.Data node) w fleet t h = h
+after_step f (kind.Counts node) w fleet t h = h
 after_step f (kind.Packet i) w fleet t h = h
 
 pub run_holds : (f : FleetConfig) (turns : List Turn) (w : Network) → IsFleet f → AllByRecursion (IsTurn f) turns → Holds f.tree w → Holds f.tree (after_all f turns w)

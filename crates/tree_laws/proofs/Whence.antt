@@ -9,7 +9,8 @@ use Rattle.node_core.specs.Node.{with_record}
 use Rattle.node_core.specs.Publications.{order}
 use Rattle.fleet_turns.specs.declared.turn.Turn.{Turn}
 use Rattle.fleet_turns.specs.declared.turn.Turn.TheVariants as kind
-use Rattle.tree_world.specs.Network.{Network, node_at, start, top_jobs, after, after_all}
+use Rattle.tree_world.specs.Network.{Network, node_at, start, top_jobs}
+use Rattle.tree_world.specs.Runs.{after, after_all}
 use Rattle.tree_laws.specs.Invariant.{Holds}
 use Rattle.tree_laws.specs.Laws.{AreTurns, IsPublishedBy, ArePublished}
 use Rattle.tree_laws.proofs.Lists.{all_join}
@@ -32,6 +33,11 @@ after_told f all (kind.Publish moment k tgt fun args) w here some h =
 after_told f all (kind.Send from to count) w here some h = h
 after_told f all (kind.Deliver i) w here some h = subst (λ js. AllByRecursion (IsPublishedBy f all) js) (sym (delivered_top f w i)) h
 after_told f all (kind.Report jid) w here some h = h
+after_told f all (kind.Exit jid) w here some h = h
+after_told f all kind.Jobs w here some h = h
+after_told f all kind.Summary w here some h = h
+after_told f all (kind.Data node) w here some h = h
+after_told f all (kind.Counts node) w here some h = h
 after_told f all (kind.Packet i) w here some h = h
 
 -- the first of some turns, and the others

@@ -1,5 +1,5 @@
--- The network machine: the nodes of a fleet, and the list of all packets ever sent. Each turn is one step.
-use Rattle.std.specs.Prelude.{ℕ, ◌≡◌, min, false, List, [], ◌∷◌, ◌++◌, length, map, take, slice_get, slice_set, Option, None, Some, Result, Ok, Err, nat_lt, if◌then◌else◌}
+-- The network machine: the nodes of a fleet, and the list of all packets ever sent.
+use Rattle.std.specs.Prelude.{ℕ, min, false, List, [], ◌∷◌, ◌++◌, length, map, take, slice_get, slice_set, Option, None, Some, Result, Ok, Err, nat_lt, if◌then◌else◌}
 use Rattle.std.specs.List.{slice_index_or}
 use Rattle.fleet_config.specs.Fleet.{FleetConfig}
 use Rattle.salt_wire.specs.declared.message.Job.{Job}
@@ -9,12 +9,8 @@ use Rattle.node_core.specs.declared.faults.PublishRefusal.{PublishRefusal}
 use Rattle.node_core.specs.Records.{jobs}
 use Rattle.exec_functions.specs.Limits.{no_holdings}
 use Rattle.node_core.specs.Node.{NodeState, Answer, MessageResult, first_node, with_record, message_result, pending}
-use Rattle.node_core.specs.Publications.{order, publication}
 use Rattle.node_core.specs.Node.Answer.{IsStray, Silent, Reply}
 use Rattle.tree_world.specs.Packets.{Packet}
-use Rattle.fleet_turns.specs.declared.turn.Turn.{Turn}
-use Rattle.fleet_turns.specs.declared.turn.Turn.TheVariants.{Publish, Send, Deliver, Report}
-use Rattle.fleet_turns.specs.declared.turn.Turn.TheVariants as t
 
 -- the nodes of a fleet in order, and the packets that were ever sent
 pub record Network : Type 0 where
@@ -92,20 +88,3 @@ after_receipt f w p =
 abbrev pub after_delivery : FleetConfig → Network → Option Packet → Network
 after_delivery f w None = w
 after_delivery f w (Some p) = if nat_lt p.to (length w.nodes) then after_receipt f w p else w
-
--- the network after a turn
-abbrev pub after : FleetConfig → Turn → Network → Network
-after f (Publish moment kind tgt fun args) w = after_publication (publication f moment (order kind tgt fun args) (top_jobs w)) w
-after f (Send from to count) w = with_packets w (sent_packets f from to count w)
-after f (Deliver i) w = after_delivery f w (slice_get w.packets i)
-after f (Report jid) w = w
-after f (t.Packet i) w = w
-
--- the network follows from a fleet and its network by a turn
-abbrev pub Follows : Turn → System → Network → Type 0
-Follows turn before network = network ≡ after before.fleet turn before.network
-
--- the network after some turns
-abbrev pub after_all : FleetConfig → List Turn → Network → Network
-after_all f [] w = w
-after_all f (turn ∷ turns) w = after_all f turns (after f turn w)

@@ -1,5 +1,5 @@
 -- What the parts of a turn do. No public contract cites these.
-use Rattle.std.specs.Prelude.{ℕ, ◌≡◌, ◌<◌, ◌++◌, All, List, length, map, take, slice_set, Option}
+use Rattle.std.specs.Prelude.{ℕ, ◌≡◌, ◌<◌, ◌++◌, All, List, length, map, take, slice_get, slice_set, Option, Some}
 use Rattle.std.specs.Option.{option_to_list}
 use Rattle.salt_value.specs.declared.outcome.Row.{Row}
 use Rattle.salt_wire.specs.declared.message.Message.{Message}
@@ -9,7 +9,9 @@ use Rattle.minion_core.specs.Flat.{return_of}
 use Rattle.node_core.specs.Records.{log}
 use Rattle.node_core.specs.Node.{NodeState, pending}
 use Rattle.tree_world.specs.Packets.{Packet}
-use Rattle.tree_world.specs.Network.{node_at, packet, reception, with_reply, with_reply_if_any}
+use Rattle.salt_wire.specs.declared.message.Job.{Job}
+use Rattle.tree_world.specs.Settle.{node_jobs}
+use Rattle.tree_world.specs.Network.{Network, node_at, packet, reception, with_reply, with_reply_if_any}
 use Rattle.tree_world.specs.Report.{row_of}
 
 -- each of these is the place of a node of the tree
@@ -45,3 +47,9 @@ AddsPackets from to messages before after = after ≡ before ++ map (packet from
 -- the pending messages of one of these nodes for another one, at most max
 abbrev pub first_pending : Tree → ℕ → ℕ → ℕ → List NodeState → List Message
 first_pending t from to max nodes = take max (pending t from to (node_at nodes from))
+
+-- each job that a node holds afterwards, some node held before
+abbrev pub BringsNoJob : Network → Network → Type 0
+BringsNoJob before after =
+    (i seq : ℕ) (job : Job) → slice_get (node_jobs after i) seq ≡ Some job
+    → (k n : ℕ) × (slice_get (node_jobs before k) n ≡ Some job)

@@ -7,7 +7,9 @@
 #![tactic(auto)]
 
 mod packet;
+mod queries;
 mod report;
+mod settle;
 mod text;
 mod world;
 

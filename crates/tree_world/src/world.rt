@@ -8,7 +8,8 @@ ghost use Rattle.tree_world.specs.Steps.{TakesPacket, IsReplyTo, AddsReply, Adds
 ghost use Rattle.salt_outside.specs.Streams.{contents_after, IsPart};
 
 use crate::packet::Packet;
-use crate::report::{rows_of, sort_by_id};
+use crate::queries::{counts_text, data_text, exit_text, jobs_text, settled_text, summary_text};
+use crate::report::{row_count, rows_of, sort_by_id};
 use crate::text::{
     missing_text, number_of, packet_text, published_text, refused_text, rows_text, unknown_text,
 };
@@ -30,11 +31,11 @@ pub const MOST_SENT: u64 = 4_294_967_295;
 /// A fleet, its nodes, and the packets that were ever sent.
 #[derive(Drop)]
 pub struct World {
-    alloc: Global,
-    fleet: Fleet,
+    pub(crate) alloc: Global,
+    pub(crate) fleet: Fleet,
     order: Vec<NodeId>,
-    nodes: Vec<Node>,
-    packets: Vec<Packet>,
+    pub(crate) nodes: Vec<Node>,
+    pub(crate) packets: Vec<Packet>,
 }
 
 impl Model for World {
@@ -79,9 +80,9 @@ impl From<AllocError> for StepFault {
     }
 }
 
-// Why a turn stops before its text is written.
+/// Why a turn stops before its text is written.
 #[derive(Clone, Copy, Debug, PartialEq, Eq)]
-enum Halt {
+pub enum Halt {
     NoMemory,
     TooBig { leaf: u32 },
 }
@@ -107,7 +108,9 @@ fn step_fault(halt: Halt) -> StepFault
 }
 
 impl World {
-    ghost use Rattle.tree_world.specs.Network.{System, system, Follows};
+    ghost use Rattle.tree_world.specs.Network.{System, system};
+    ghost use Rattle.tree_world.specs.Runs.{Follows};
+    ghost use Rattle.fleet_config.specs.Tree.{is_minion};
     ghost use Rattle.fleet_turns.specs.Turns.{IsTurn};
     ghost use Rattle.node_core.specs.Node.{is_neighbour};
     ghost use Rattle.tree_world.specs.Halts.{Halts, IsStepFault};
@@ -179,7 +182,16 @@ impl World {
                 self.deliver(*packet)?;
                 Ok(Vec::new(self.alloc))
             }
+            Turn::Settle => {
+                self.settle()?;
+                Ok(settled_text(self.alloc)?)
+            }
             Turn::Report { jid } => Ok(self.report(*jid)?),
+            Turn::Exit { jid } => Ok(self.exit(*jid)?),
+            Turn::Jobs => Ok(self.jobs()?),
+            Turn::Summary => Ok(self.summary()?),
+            Turn::Data { node } => Ok(self.data(*node)?),
+            Turn::Counts { node } => Ok(self.counts(*node)?),
             Turn::Packet { packet } => Ok(self.packet(*packet)?),
         }
     }
@@ -226,6 +238,61 @@ impl World {
         rows_text(self.alloc, jid, &top.jobs()[seq].fun, &rows)
     }
 
+    // The lines of a report, each with whether its retcode is 0.
+    fn exit(&self, jid: Jid) -> Result<Vec<u8>, AllocError>
+        ensures { IfOk result (λ v. v.items ≡ turn_text (Turn.Exit jid) self.now) }
+    {
+        let Some(top) = self.nodes.first() else {
+            unreachable!();
+        };
+        let Some(seq) = number_of(jid, top.jobs()) else {
+            return unknown_text(self.alloc, jid);
+        };
+        let rows = rows_of(self.alloc, &self.fleet, top, seq as u32, &self.order)?;
+        exit_text(self.alloc, jid, &rows)
+    }
+
+    // The lines of the list of jobs.
+    fn jobs(&self) -> Result<Vec<u8>, AllocError>
+        ensures { IfOk result (λ v. v.items ≡ turn_text Turn.Jobs self.now) }
+    {
+        let Some(top) = self.nodes.first() else {
+            unreachable!();
+        };
+        jobs_text(self.alloc, top.jobs())
+    }
+
+    // The line of how many jobs there are, and how many rows their reports have.
+    fn summary(&self) -> Result<Vec<u8>, AllocError>
+        ensures { IfOk result (λ v. v.items ≡ turn_text Turn.Summary self.now) }
+    {
+        let Some(top) = self.nodes.first() else {
+            unreachable!();
+        };
+        let jobs = top.jobs().len();
+        let rows = row_count(&self.fleet, top, jobs as u32, &self.order);
+        summary_text(self.alloc, jobs, rows)
+    }
+
+    // The line of what a minion holds.
+    fn data(&self, node: NodeId) -> Result<Vec<u8>, AllocError>
+        requires { is_minion self.now.fleet.tree node ≡ true }
+        ensures { IfOk result (λ v. v.items ≡ turn_text (Turn.Data node) self.now) }
+    {
+        let Some(held) = self.nodes[node.index()].holdings() else {
+            unreachable!();
+        };
+        data_text(self.alloc, &self.fleet.id(node), held)
+    }
+
+    // The line of how many jobs a node holds, and how many entries it has of each minion at or below it.
+    fn counts(&self, node: NodeId) -> Result<Vec<u8>, AllocError>
+        requires { node < length self.now.fleet.tree }
+        ensures { IfOk result (λ v. v.items ≡ turn_text (Turn.Counts node) self.now) }
+    {
+        counts_text(self.alloc, &self.fleet, node, &self.nodes[node.index()])
+    }
+
     // The line of a packet.
     fn packet(&self, i: u64) -> Result<Vec<u8>, AllocError>
         ensures { IfOk result (λ v. v.items ≡ turn_text (Turn.Packet i) self.now) }
@@ -250,7 +317,7 @@ impl World {
 
     // The receiver takes a packet, and its reply is a packet.
     #[tactic(auto, using(crate::proofs::Delivers::delivered_past, crate::proofs::Delivers::delivered_to))]
-    fn deliver(&mut self, i: u64) -> Result<(), Halt>
+    pub(crate) fn deliver(&mut self, i: u64) -> Result<(), Halt>
         requires { i < 2 ^ 64 }
         ensures halt { IfErr result (Halts (Turn.Deliver i) self.old) }
         ensures state { OnOk result (Follows (Turn.Deliver i) self.old self.new.network) }

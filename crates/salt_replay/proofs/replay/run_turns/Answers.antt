@@ -1,5 +1,5 @@
 use Rattle.std.proofs.Common.{◌∙◌, ◌++◌, sym, ap, arith, append_assoc}
-use Rattle.tree_world.specs.Network.{after}
+use Rattle.tree_world.specs.Runs.{after}
 use Rattle.tree_world.specs.Text.{printed_text}
 use Rattle.salt_replay.proofs.Turns.{text_step, text_end, part_within, part_last, told_more}
 use Rattle.salt_replay.proofs.BigPatterns.{network_step, handed_small}
