@@ -6,8 +6,9 @@ use Rattle.std.specs.Map.{lookup}
 use Rattle.std.proofs.lemmas.Slice.Eq.{bytes_eq-Decides}
 use Rattle.salt_value.specs.declared.outcome.Outcome.{Outcome}
 use Rattle.salt_value.specs.declared.outcome.Row.{Row}
-use Rattle.job_store.specs.Store.{StoredJob, stored_outcome, with_row, with_return}
-use Rattle.job_store.specs.Laws.{KeepsOutcomes, FindsReturn, KeepsOtherMinions, KeepsOtherJobs}
+use Rattle.salt_wire.specs.declared.message.Job.{Job}
+use Rattle.job_store.specs.Store.{StoredJob, stored_jobs, stored_outcome, with_row, with_return}
+use Rattle.job_store.specs.Laws.{KeepsOutcomes, FindsReturn, KeepsOtherMinions, KeepsOtherJobs, KeepsJobs}
 
 -- a job more
 pub keeps_outcomes : KeepsOutcomes
@@ -65,3 +66,10 @@ keeps_other_jobs (stored ∷ store) (suc i) zero row id h = ap (λ (s : List Sto
 keeps_other_jobs (stored ∷ store) (suc i) (suc n) row id h =
     ap (λ (s : List StoredJob). stored_outcome s (suc n) id) (later_return stored store i row)
     ∙ keeps_other_jobs store i n row id (λ (e : n ≡ i). h (ap suc e))
+
+-- the jobs
+pub keeps_jobs : KeepsJobs
+keeps_jobs [] seq row = refl
+keeps_jobs (stored ∷ store) zero row = refl
+keeps_jobs (stored ∷ store) (suc i) row =
+    ap (λ (s : List StoredJob). stored_jobs s) (later_return stored store i row) ∙ ap (λ (js : List Job). stored.job ∷ js) (keeps_jobs store i row)

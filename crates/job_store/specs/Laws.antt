@@ -2,7 +2,7 @@
 use Rattle.std.specs.Prelude.{◌≡◌, ◌≢◌, ℕ, ◌<◌, IsFalse, List, Some, length, bytes_eq}
 use Rattle.salt_value.specs.declared.outcome.Row.{Row}
 use Rattle.salt_wire.specs.declared.message.Job.{Job}
-use Rattle.job_store.specs.Store.{StoredJob, stored_outcome, has_outcome, with_job, with_return}
+use Rattle.job_store.specs.Store.{StoredJob, stored_jobs, stored_outcome, has_outcome, with_job, with_return}
 
 -- a job more leaves every outcome as it was
 abbrev pub KeepsOutcomes : Type 0
@@ -22,3 +22,7 @@ KeepsOtherMinions = (store : List StoredJob) (seq n : ℕ) (row : Row) (id : Lis
 abbrev pub KeepsOtherJobs : Type 0
 KeepsOtherJobs = (store : List StoredJob) (seq n : ℕ) (row : Row) (id : List ℕ) → n ≢ seq
     → stored_outcome (with_return seq row store) n id ≡ stored_outcome store n id
+
+-- a return leaves the jobs as they were
+abbrev pub KeepsJobs : Type 0
+KeepsJobs = (store : List StoredJob) (seq : ℕ) (row : Row) → stored_jobs (with_return seq row store) ≡ stored_jobs store

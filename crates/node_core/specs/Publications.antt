@@ -24,7 +24,7 @@ use Rattle.node_core.specs.declared.faults.PublishRefusal.TheVariants as r
 use Rattle.node_core.specs.declared.faults.PublishFault.{PublishFault}
 use Rattle.node_core.specs.declared.faults.PublishFault.TheVariants as f
 use Rattle.node_core.specs.Records.{jobs}
-use Rattle.node_core.specs.Node.{NodeState, with_record}
+use Rattle.node_core.specs.Node.{NodeState, PlacedNode, with_record}
 
 -- what is to be published: the text of a target and its kind, a function, and its arguments
 pub record Order : Type 0 where
@@ -109,3 +109,11 @@ IsOrderFault fleet moment o jobs f.NoMemory = ⊤
 -- the same where this node is the top
 abbrev pub IsPublishFault : FleetConfig → ℕ → Order → NodeState → PublishFault → Type 0
 IsPublishFault fleet moment o node fault = IsOrderFault fleet moment o (jobs node.records) fault
+
+-- a top published an order under this jid
+abbrev pub PublishesOrder : ℕ → Order → PlacedNode → PlacedNode → ℕ → Type 0
+PublishesOrder moment o before after jid = Publishes before.fleet moment o before.state after.state jid
+
+-- why a top publishes no job for an order
+abbrev pub DeniesOrder : ℕ → Order → PlacedNode → PublishFault → Type 0
+DeniesOrder moment o n fault = IsPublishFault n.fleet moment o n.state fault

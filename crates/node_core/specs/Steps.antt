@@ -1,5 +1,5 @@
 -- What the parts of a publication, of a message that is taken and of the messages for a neighbour do. No public contract cites these.
-use Rattle.std.specs.Prelude.{ℕ, ◌≡◌, ◌<◌, ◌++◌, ◌∷◌, [], ⊤, Bool, true, false, List, length, take, drop, Result, Ok, Err, Option, None, Some}
+use Rattle.std.specs.Prelude.{ℕ, ◌≡◌, ◌<◌, ◌+◌, ◌^◌, ◌++◌, ◌∷◌, [], ⊤, IsTrue, Bool, true, false, List, length, take, drop, Result, Ok, Err, Option, None, Some, is_some}
 use Rattle.salt_value.specs.WellFormed.{ValueFits}
 use Rattle.salt_value.specs.declared.value.Value.{Value}
 use Rattle.salt_value.specs.declared.value.Value.TheVariants as v
@@ -8,7 +8,7 @@ use Rattle.target_tree.specs.declared.fault.TargetFault.{TargetFault}
 use Rattle.target_tree.specs.declared.fault.TargetFault.TheVariants as fault
 use Rattle.target_match.specs.Holds.{NamesBigPattern}
 use Rattle.target_match.specs.Readability.{unread_leaf}
-use Rattle.salt_wire.specs.Limits.{TreeFits}
+use Rattle.salt_wire.specs.Limits.{TreeFits, JobFits, EntryFits}
 use Rattle.salt_wire.specs.declared.message.Job.{Job}
 use Rattle.fleet_config.specs.Fleet.{FleetConfig}
 use Rattle.fleet_config.specs.Limits.{most_jobs}
@@ -21,12 +21,14 @@ use Rattle.salt_wire.specs.declared.message.Entry.{Entry}
 use Rattle.salt_wire.specs.declared.message.Message.{Message}
 use Rattle.salt_wire.specs.declared.message.Message.TheVariants as m
 use Rattle.salt_wire.specs.declared.deed.Deed.{Deed}
-use Rattle.salt_wire.specs.declared.deed.Deed.TheVariants.{Boot}
+use Rattle.salt_wire.specs.declared.deed.Deed.TheVariants.{Publish, Intake, Up, Fire, React, Boot, Done}
 use Rattle.target_tree.specs.declared.kind.Kind.{Kind}
 use Rattle.exec_functions.specs.declared.holdings.Holdings.{Holdings}
-use Rattle.fleet_config.specs.Tree.{Tree}
+use Rattle.fleet_config.specs.Tree.{Tree, id_of, ids_below}
 use Rattle.minion_core.specs.Core.{CoreState, core_after}
-use Rattle.minion_core.specs.Flat.{job_record}
+use Rattle.minion_core.specs.Flat.{job_record, is_later, is_first}
+use Rattle.master_core.specs.Master.{place_in}
+use Rattle.node_core.specs.Records.{jobs, jobs_held, log}
 use Rattle.minion_core.specs.Faults.{IsRunFault}
 use Rattle.minion_core.specs.declared.fault.RunFault.{RunFault}
 use Rattle.minion_core.specs.declared.fault.RunFault.TheVariants as run
@@ -34,7 +36,7 @@ use Rattle.node_core.specs.declared.faults.TakeFault.{TakeFault}
 use Rattle.node_core.specs.declared.faults.TakeFault.TheVariants as take
 use Rattle.node_core.specs.declared.faults.Stray.{Stray}
 use Rattle.node_core.specs.declared.faults.Stray.TheVariants as stray
-use Rattle.node_core.specs.Node.{NodeState, run_tests, RunsBigPattern, first_tests, with_record, job_deed, after_message, after_pub, after_up, reply_answer, pubs_from, ups_from, pending_ups}
+use Rattle.node_core.specs.Node.{NodeState, PlacedNode, in_state, run_tests, RunsBigPattern, first_tests, with_record, taken_in, names_held, after_message, after_pub, after_up, reply_answer, pubs_from, ups_from, pending_ups}
 use Rattle.node_core.specs.Node.Answer.{Reply}
 use Rattle.node_core.specs.Publications.{Order, order, order_jid, order_job, IsJobOfOrder, IsOrderFault}
 
@@ -96,30 +98,40 @@ booted_minion held = record { minion = true; records = Boot ∷ []; held = held;
 abbrev pub first_stray_of : Tree → ℕ → ℕ → Message → NodeState → Option Stray
 first_stray_of t me from message node = first_cause (first_tests t me from message node)
 
+-- the same at the place of a node
+abbrev pub first_stray_at : ℕ → Message → PlacedNode → Option Stray
+first_stray_at from message n = first_stray_of n.fleet.tree n.me from message n.state
+
 -- why an entry from below is stray, if it is
-abbrev pub up_stray : Tree → ℕ → ℕ → List ℕ → ℕ → Entry → NodeState → Option Stray
-up_stray t me from id n entry node = first_stray_of t me from (m.Up id n entry) node
+abbrev pub up_stray_at : ℕ → List ℕ → ℕ → Entry → PlacedNode → Option Stray
+up_stray_at from id n entry node = first_stray_at from (m.Up id n entry) node
 
--- node me took a message that passes the tests, and replied, or not
-abbrev pub Accepts : Tree → ℕ → ℕ → Message → NodeState → NodeState → Option Message → Type 0
-Accepts t me from message before after reply =
-    after_message t me from message before ≡ record { node = after; answer = reply_answer reply }
+-- a node took a message that passes the tests, and replied, or not
+abbrev pub Accepts : ℕ → Message → PlacedNode → PlacedNode → Option Message → Type 0
+Accepts from message before after reply =
+    after_message before.fleet.tree before.me from message before.state ≡ record { node = after.state; answer = reply_answer reply }
 
--- node me took a job with this number, and replied how many it holds then
-abbrev pub AcceptsJob : Tree → ℕ → ℕ → Job → NodeState → NodeState → ℕ → Type 0
-AcceptsJob t me seq job before after have = after_pub t me seq job before ≡ record { node = after; answer = Reply (m.Have have) }
+-- a node took a job with this number, and replied how many it holds then
+abbrev pub AcceptsJob : ℕ → Job → PlacedNode → PlacedNode → ℕ → Type 0
+AcceptsJob seq job before after have =
+    after_pub before.fleet.tree before.me seq job before.state ≡ record { node = after.state; answer = Reply (m.Have have) }
 
 -- a node took an entry of a minion with this number, and replied how many it holds then
-abbrev pub AcceptsEntry : List ℕ → ℕ → Entry → NodeState → NodeState → ℕ → Type 0
-AcceptsEntry id n entry before after have = after_up id n entry before ≡ record { node = after; answer = Reply (m.UpHave id have) }
+abbrev pub AcceptsEntry : List ℕ → ℕ → Entry → PlacedNode → PlacedNode → ℕ → Type 0
+AcceptsEntry id n entry before after have =
+    after_up id n entry before.state ≡ record { node = after.state; answer = Reply (m.UpHave id have) }
 
--- the node with this id after it took in a job
-abbrev pub after_job : ℕ → Job → List ℕ → NodeState → NodeState
-after_job seq job id node = with_record (job_deed seq job id node) node
+-- the node after a record
+abbrev pub placed_after : Deed → PlacedNode → PlacedNode
+placed_after deed n = in_state (with_record deed n.state) n
 
--- the minion with this id after it ran a job
-abbrev pub after_run : ℕ → Job → List ℕ → NodeState → NodeState
-after_run seq job id node = with_record (job_record seq job id node.held) node
+-- the node after it took in a job
+abbrev pub after_job : ℕ → Job → PlacedNode → PlacedNode
+after_job seq job n = placed_after (taken_in n.fleet.tree n.me seq job n.state) n
+
+-- the node, a minion, after it ran a job
+abbrev pub after_run : ℕ → Job → PlacedNode → PlacedNode
+after_run seq job n = placed_after (job_record seq job (id_of n.fleet.tree n.me) n.state.held) n
 
 -- the core of the minion with this id after it ran a job
 abbrev pub core_after_run : ℕ → Job → List ℕ → CoreState → CoreState
@@ -128,6 +140,33 @@ core_after_run seq job id core = core_after (job_record seq job id core.held) co
 -- the records have one more, that of a job which the minion with this id and this core ran
 abbrev pub AddsRun : ℕ → Job → List ℕ → CoreState → List Deed → List Deed → Type 0
 AddsRun seq job id core before after = after ≡ before ++ job_record seq job id core.held ∷ []
+
+-- a job that a master can record next: it is later than the last one and within the limits of messages, and there is room for it
+pub record IsJobToRecord (job : Job) (node : NodeState) : Type 0 where
+  pub master : node.minion ≡ false
+  pub later : is_later (jobs node.records) job ≡ true
+  pub few : jobs_held node.records < most_jobs
+  pub fits : JobFits job
+
+-- a record of such a job
+abbrev pub IsNextJobRecord : Deed → NodeState → Type 0
+IsNextJobRecord (Publish job) node = IsJobToRecord job node
+IsNextJobRecord (Intake job) node = IsJobToRecord job node
+IsNextJobRecord (Up minion entry) node = ⊥
+IsNextJobRecord (Fire event) node = ⊥
+IsNextJobRecord (React items) node = ⊥
+IsNextJobRecord Boot node = ⊥
+IsNextJobRecord (Done seq changed entries) node = ⊥
+
+-- An entry that a master can record next: it is of a minion below, names a job that is held, and is no second return; it is within the
+-- limits of messages, and there is room for it.
+pub record IsEntryToRecord (id : List ℕ) (entry : Entry) (n : PlacedNode) : Type 0 where
+  pub master : n.state.minion ≡ false
+  pub below : IsTrue (is_some (place_in (ids_below n.fleet.tree n.me) id))
+  pub named : names_held (jobs_held n.state.records) entry ≡ true
+  pub first : is_first entry (log id n.state.records) ≡ true
+  pub room : length (log id n.state.records) + 1 < 2 ^ 32
+  pub fits : EntryFits entry
 
 -- the publications of the jobs from number known on were added to these messages, up to max messages in all
 abbrev pub AddsJobs : ℕ → ℕ → List Job → List Message → List Message → Type 0
@@ -138,8 +177,8 @@ abbrev pub AddsEntries : ℕ → List ℕ → ℕ → List Entry → List Messag
 AddsEntries max id known entries before after = after ≡ take max (before ++ ups_from id known (drop known entries))
 
 -- the entries of a minion that the parent is not known to hold were added to these messages, up to max messages in all
-abbrev pub AddsUps : Tree → NodeState → ℕ → ℕ → List Message → List Message → Type 0
-AddsUps t node minion max before after = after ≡ take max (before ++ pending_ups t node minion)
+abbrev pub AddsUps : PlacedNode → ℕ → ℕ → List Message → List Message → Type 0
+AddsUps n minion max before after = after ≡ take max (before ++ pending_ups n.fleet.tree n.state minion)
 
 -- an order with these arguments and this target gets this jid
 abbrev pub IsOrderJid : FleetConfig → ℕ → List Value → Target → List Job → ℕ → Type 0

@@ -1,5 +1,6 @@
 //! The job of an order.
-ghost use Rattle.std.specs.Prelude.{◌≡◌, ◌≤◌, ◌<◌, None, Ok, length, IfOk, IfErr, OnOk};
+ghost use Rattle.std.specs.Prelude.{◌≡◌, ◌≤◌, ◌<◌, None, Ok, true, length, IfOk, IfErr, OnOk};
+ghost use Rattle.minion_core.specs.Flat.{last_jid, is_after, is_later};
 ghost use Rattle.fleet_config.specs.Limits.{most_jobs};
 ghost use Rattle.target_tree.specs.Machine.{machine_tree};
 ghost use Rattle.target_match.specs.Readability.{unread_leaf};
@@ -65,6 +66,7 @@ fn read_patterns(alloc: Global, tree: &Target) -> Result<(), PublishFault>
 }
 
 // The jid of an order with these arguments and this target.
+#[tactic(auto, using(crate::proofs::Later::next_later))]
 fn order_jid(
     alloc: Global,
     fleet: &Fleet,
@@ -75,6 +77,7 @@ fn order_jid(
 ) -> Result<Jid, PublishFault>
     ensures ok { IfOk result (IsOrderJid fleet.now moment args.now tree.now jobs.now) }
     ensures room { OnOk result (HasJobRoom args.now tree.now jobs.now) }
+    ensures later { IfOk result (λ jid. is_after (last_jid jobs.now) jid ≡ true) }
     ensures fault { IfErr result (IsJidFault fleet.now moment args.now tree.now jobs.now) }
 {
     read_patterns(alloc, tree)?;
@@ -141,6 +144,7 @@ pub fn order_job(
     ensures ok { IfOk result (MakesJob fleet.now moment kind tgt.now fun.now args.now jobs.now) }
     ensures fits { IfOk result JobFits }
     ensures few { OnOk result (length jobs.now < most_jobs) }
+    ensures later { IfOk result (λ job. is_later jobs.now job ≡ true) }
     ensures fault { IfErr result (Denies fleet.now moment kind tgt.now fun.now args.now jobs.now) }
 {
     let tree = order_tree(alloc, fleet.groups(), kind, tgt)?;

@@ -4,74 +4,36 @@ ghost use Rattle.minion_core.specs.Core.{core_after};
 ghost use Rattle.minion_core.specs.Flat as flat;
 ghost use Rattle.minion_core.specs.Limits.{DeedFits, HasFewEntries, HasRoom};
 ghost use Rattle.minion_core.specs.Faults.{IsRunFault};
-ghost use Rattle.node_core.specs.Logs.{HasEntryMore, KeepsLogs};
+ghost use Rattle.master_core.specs.Master.{IsRightFor, master_after};
 ghost use Rattle.node_core.specs.Steps.{AddsRun, core_after_run};
-ghost use Rattle.node_core.specs.declared.logs.Logs.TheVariants.{Below};
 ghost use Rattle.salt_wire.specs.Limits.{JobFits};
-ghost use Rattle.salt_wire.specs.declared.deed.Deed.TheVariants.{Up};
 
-use crate::logs::push_below;
-use indexmap::IndexMap;
+use master_core::MasterCore;
 use minion_core::{MinionCore, RunFault, job_record};
 use salt_value::MinionId;
-use salt_wire::{Deed, Entries, Entry, Job};
+use salt_wire::{Deed, Job};
 use std::alloc::{AllocError, Global};
 
-/// A record and a job more, or neither.
-pub fn push_both(
+/// A record more in the list, which the core of a master takes in, or neither. The record is handed in twice, once for each.
+pub fn push_deed(
     records: &mut Vec<Deed>,
-    new: Deed,
-    jobs: &mut Vec<Job>,
-    job: Job,
+    core: &mut MasterCore,
+    listed: Deed,
+    deed: Deed,
 ) -> Result<(), AllocError>
-    ensures records { OnOk result (records.new.items ≡ records.old.items ++ new ∷ []) }
-    ensures jobs { OnOk result (jobs.new.items ≡ jobs.old.items ++ job ∷ []) }
+    requires same { listed ≡ deed }
+    requires right { IsRightFor deed core.old }
+    ensures records { OnOk result (records.new.items ≡ records.old.items ++ deed ∷ []) }
+    ensures core { OnOk result (core.new ≡ master_after deed core.old) }
     ensures kept_records { OnErr result (records.new.items ≡ records.old.items) }
-    ensures kept_jobs { OnErr result (jobs.new.items ≡ jobs.old.items) }
+    ensures kept_core { OnErr result (core.new ≡ core.old) }
 {
     let count = records.len();
-    records.push(new)?;
-    if jobs.push(job).is_err() {
-        records.truncate(count);
-        return Err(AllocError);
-    }
-    Ok(())
-}
-
-// A record of an entry from below more.
-fn push_record(
-    alloc: Global,
-    records: &mut Vec<Deed>,
-    minion: MinionId,
-    entry: &Entry,
-) -> Result<(), AllocError>
-    ensures ok { OnOk result (records.new.items ≡ records.old.items ++ Up minion entry.now ∷ []) }
-    ensures err { OnErr result (records.new.items ≡ records.old.items) }
-{
-    let entry = entry.copy(alloc)?;
-    records.push(Deed::Up { minion, entry })?;
-    Ok(())
-}
-
-/// A record of an entry from below and the entry in its minion's log more, or neither.
-pub fn push_up(
-    alloc: Global,
-    deeds: &mut Vec<Deed>,
-    map: &mut IndexMap<MinionId, Entries>,
-    minion: MinionId,
-    entry: &Entry,
-) -> Result<(), AllocError>
-    ensures records { OnOk result (deeds.new.items ≡ deeds.old.items ++ Up minion entry.now ∷ []) }
-    ensures logs { OnOk result (HasEntryMore (Below map.old) (Below map.new) minion entry.now) }
-    ensures kept_records { OnErr result (deeds.new.items ≡ deeds.old.items) }
-    ensures kept_logs { OnErr result (KeepsLogs (Below map.old) (Below map.new)) }
-{
-    let count = deeds.len();
-    push_record(alloc, deeds, minion, entry)?;
-    match push_below(alloc, map, minion, entry) {
+    records.push(listed)?;
+    match core.apply(deed) {
         Ok(()) => Ok(()),
         Err(fault) => {
-            deeds.truncate(count);
+            records.truncate(count);
             Err(fault)
         }
     }

@@ -10,7 +10,7 @@ ghost use Rattle.node_core.specs.Steps as step;
 use crate::{Stray, TakeFault};
 use fleet_config::Fleet;
 use minion_core::RunFault;
-use salt_value::{Jid, MinionId, NodeId, Outcome};
+use salt_value::{Jid, MinionId, NodeId};
 use salt_wire::{Entry, Job};
 
 /// The cause of the first test that does not hold.
@@ -89,32 +89,6 @@ pub fn last_jid(jobs: &[Job]) -> Option<Jid>
     match jobs.last() {
         Some(last) => Some(last.jid),
         None => None,
-    }
-}
-
-/// The outcome of the first return of a job.
-pub fn return_of(seq: u32, entries: &[Entry]) -> Option<&Outcome>
-    ensures { option_copied result ≡ flat.return_of seq entries.now }
-{
-    for entry in entries {
-        if let Entry::Return { seq: n, outcome } = entry
-            && *n == seq
-        {
-            return Some(outcome);
-        }
-    }
-    None
-}
-
-/// Is the entry no second return of one job?
-pub fn is_first(entry: &Entry, entries: &[Entry]) -> bool
-    ensures { result ≡ flat.is_first entry.now entries.now }
-{
-    match entry {
-        Entry::Return { seq, .. } => return_of(*seq, entries).is_none(),
-        Entry::Fired { .. } => true,
-        Entry::Start { .. } => true,
-        Entry::Mine { .. } => true,
     }
 }
 

@@ -1,4 +1,4 @@
-use Rattle.job_store.proofs.Outcomes.{keeps_outcomes, finds_return, keeps_other_minions, keeps_other_jobs}
+use Rattle.job_store.proofs.Outcomes.{keeps_outcomes, finds_return, keeps_other_minions, keeps_other_jobs, keeps_jobs}
 use Rattle.job_store.proofs.laws.outcomes_by_steps.Goals as goal
 
 pub returns : goal.returns
@@ -7,4 +7,5 @@ returns c = record {
   value = finds_return;
   other_minions = keeps_other_minions;
   other_jobs = keeps_other_jobs;
+  listed = keeps_jobs;
 }
