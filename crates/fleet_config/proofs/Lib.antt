@@ -4,4 +4,5 @@ pub mod Levels
 pub mod Places
 pub mod Fleets
 pub mod Owns
+pub mod Ids
 pub mod Growth

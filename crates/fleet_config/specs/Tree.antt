@@ -111,6 +111,10 @@ up_to (suc n) = up_to n ++ n ∷ []
 abbrev pub minions : Tree → ℕ → List ℕ
 minions t a = filter (λ m. is_minion t m && is_within t a m) (up_to (length t))
 
+-- the ids of the minions at or below a node, in list order
+abbrev pub ids_below : Tree → ℕ → List (List ℕ)
+ids_below t a = map (id_of t) (minions t a)
+
 -- a node right under the top, or the top itself, without a port, which holds nothing at first
 abbrev pub plain_member : Role → List ℕ → Member
 plain_member kind id = record { id = id; role = kind; parent = 0; port = 0; held = no_holdings }

@@ -1,5 +1,5 @@
 //! A fleet, and the calls on it.
-ghost use Rattle.std.specs.Prelude.{◌≡◌, ◌∷◌, [], ◌++◌, ◌<◌, ◌≤◌, cond, All, Some, None, length, map, position, IfOk, IfErr, IfSome, OnOk, OnErr, Err, ◌↔◌, IsTrue, if◌then◌else◌};
+ghost use Rattle.std.specs.Prelude.{◌≡◌, ◌∷◌, [], ◌++◌, ◌<◌, ◌≤◌, ◌^◌, cond, All, Some, None, length, map, position, IfOk, IfErr, IfSome, OnOk, OnErr, Err, ◌↔◌, IsTrue, if◌then◌else◌};
 ghost use Rattle.fleet_config.specs.Places.{HasPlaces, HasOneMore, FindAlike};
 ghost use Rattle.std.specs.List.{IsDistinct};
 ghost use Rattle.std.specs.Str.{bytes_eq};
@@ -335,6 +335,22 @@ impl Fleet {
             push_where(is_here, other, &mut found)?;
         }
         Ok(found)
+    }
+
+    /// The ids of the minions at or below a node, in list order. No id comes twice, and there are fewer than 4,294,967,296.
+    #[tactic(auto, using(crate::proofs::Ids::distinct_ids, crate::proofs::Ids::few_ids))]
+    pub fn ids_below(&self, alloc: Global, node: NodeId) -> Result<Ids, AllocError>
+        ensures ok { IfOk result (λ ids. ids ≡ tree.ids_below self.now.tree node) }
+        ensures distinct { IsDistinct bytes_eq (tree.ids_below self.now.tree node) }
+        ensures few { length (tree.ids_below self.now.tree node) < 2 ^ 32 }
+    {
+        let _ = &self.members;
+        let minions = self.minions(alloc, node)?;
+        let mut ids = Ids::new(alloc);
+        for minion in &minions {
+            ids.push(self.id(*minion))?;
+        }
+        Ok(ids)
     }
 
     // Why a node is not added, if it is not.

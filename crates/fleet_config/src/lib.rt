@@ -4,10 +4,12 @@
 #![tactic(auto)]
 
 mod fleet;
+mod laws;
 mod node;
 
 pub use fleet::{
     Fleet, LEAST_JOURNAL_LIMIT, MOST_JOBS, MOST_JOURNAL_LIMIT, MOST_LEVELS, MOST_MINIONS,
     MOST_SYNDICS, Member, Role,
 };
+pub use laws::minions_are_found;
 pub use node::{FleetNode, NodeFault};
