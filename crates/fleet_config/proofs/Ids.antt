@@ -120,7 +120,7 @@ found_up t p m passes (suc n) l =
     ]
 
 pub finds_minions : FindsMinionsBelow
-finds_minions t a m h is within =
+finds_minions t a m is within =
     some_place (λ other. bytes_eq other (id_of t m)) (ids_below t a)
     (found_up t (λ k. is_minion t k && is_within t a k) m (rw (is, within) refl) (length t) (minion_within t m is))
 
