@@ -1,2 +1,3 @@
 pub mod Master
+pub mod Laws
 pub mod Index

@@ -3,6 +3,8 @@
 //! `core.apply(deed)?` takes a record in, and `core.jobs().outcome(seq, &id)` and `core.log(&id)` find what was taken.
 #![tactic(auto)]
 
+mod laws;
 mod master;
 
+pub use laws::logs_by_steps;
 pub use master::MasterCore;
