@@ -514,3 +514,31 @@ fn minions_at_or_below_a_node(rt: HostRuntime) {
         &TREE_MINIONS,
     );
 }
+
+fn are_ids(rt: &impl Abort, found: &[MinionId], wanted: &[&str]) {
+    assert_eq!(rt; found.len(), wanted.len());
+    for (id, text) in found.iter().zip(wanted.iter()) {
+        assert_eq!(rt; id.as_str(), *text);
+    }
+}
+
+fn has_ids(rt: &impl Abort, alloc: Global, fleet: &Fleet, rows: &[(u32, &[&str])]) {
+    for (place, wanted) in rows {
+        let ids = fleet
+            .ids_below(alloc, NodeId::new(*place))
+            .expect(rt, FAILED);
+        are_ids(rt, ids.as_slice(), wanted);
+    }
+}
+
+static TREE_IDS: [(u32, &[&str]); 4] = [
+    (0, &["m1", "m2", "m3"]),
+    (1, &["m1", "m2"]),
+    (4, &["m2"]),
+    (6, &[]),
+];
+
+#[test]
+fn ids_of_the_minions_at_or_below_a_node(rt: HostRuntime) {
+    has_ids(&rt, rt.alloc(), &grown(&rt, rt.alloc(), &TREE), &TREE_IDS);
+}
