@@ -70,10 +70,10 @@ IsCoreIndex t me records (Minion core) = IsMinionIndex records core
 IsCoreIndex t me records (Master core) = IsMasterIndex t me records core
 
 -- what a node at a place keeps beside its records is what they say, each count is a u32, and all is within the limits of messages
-pub record IsIndex (t : Tree) (me : ℕ) (below : List ℕ) (records : List Deed) (core : Core) : Type 0 where
+pub record IsIndex (t : Tree) (me : ℕ) (places : List ℕ) (records : List Deed) (core : Core) : Type 0 where
   pub place : me < length t
-  pub below : below ≡ minions t me
-  pub within : All (λ m. m < length t) below
+  pub below : places ≡ minions t me
+  pub within : All (λ m. m < length t) places
   pub role : is_minion_core core ≡ is_minion t me
   pub counted : job_count_in core ≡ jobs_held records
   pub few_jobs : job_count_in core ≤ most_jobs

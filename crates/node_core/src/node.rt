@@ -495,7 +495,8 @@ impl<'f> Node<'f> {
         let Core::Minion(core) = &mut self.core else {
             unreachable!()
         };
-        push_run(self.alloc, &mut self.records, core, seq, &id, job)
+        push_run(self.alloc, &mut self.records, core, seq, &id, job)?;
+        Ok(())
     }
 
     // A record of a job that is published.
@@ -536,7 +537,8 @@ impl<'f> Node<'f> {
         let Core::Master(core) = &mut self.core else {
             unreachable!()
         };
-        push_deed(&mut self.records, core, listed, deed)
+        push_deed(&mut self.records, core, listed, deed)?;
+        Ok(())
     }
 
     // An entry from a child, and how many are held then.
@@ -576,6 +578,7 @@ impl<'f> Node<'f> {
         let Core::Master(core) = &mut self.core else {
             unreachable!()
         };
-        push_deed(&mut self.records, core, listed, deed)
+        push_deed(&mut self.records, core, listed, deed)?;
+        Ok(())
     }
 }
