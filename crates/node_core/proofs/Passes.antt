@@ -1,5 +1,5 @@
 -- What is known of a message that passes the first tests.
-use Rattle.std.proofs.Common.{◌≡◌, ℕ, ◌+◌, ◌<◌, ◌^◌, ◌∙◌, sym, ap, refl, subst, Bool, true, false, ◌&&◌, ◌==◌, nat_lt, List, [], ◌∷◌, length, None, Some, bytes_eq}
+use Rattle.std.proofs.Common.{◌≡◌, ℕ, ◌+◌, ◌<◌, ◌^◌, ◌∙◌, sym, ap, refl, subst, inl, inr, Bool, true, false, ◌&&◌, ◌==◌, nat_lt, List, [], ◌∷◌, length, None, Some, bytes_eq}
 use Rattle.std.specs.Prelude.{◌||◌, not, IsTrue, is_some, position}
 use Rattle.std.proofs.lemmas.Bool.Decides.{eqb_tells}
 use Rattle.fleet_config.specs.Causes.{first_cause}
@@ -28,11 +28,11 @@ pub job_passes : (from seq : ℕ) (job : Job) (n : PlacedNode) → first_stray_a
 job_passes from seq job n e = two_tests _ (is_parent n.fleet.tree from n.me) (may_take seq job n.state) _ _ e
 
 -- what the tests of an entry say
-record AreTrue (parent minion below may is_held : Bool) : Type 0 where
-  parent : parent ≡ true
+record AreTrue (above minion here first is_held : Bool) : Type 0 where
+  parent : above ≡ true
   master : minion ≡ false
-  below : below ≡ true
-  may : may ≡ true
+  below : here ≡ true
+  may : first ≡ true
   known : is_held ≡ true
 
 four_tests : (a b minion d r h : Bool) (x y z u : Stray)

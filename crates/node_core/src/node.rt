@@ -107,6 +107,7 @@ impl<'f> Node<'f> {
     // A master without a record.
     fn start_master(alloc: Global, fleet: &'f Fleet, me: NodeId) -> Result<Node<'f>, AllocError>
         requires within { me < length fleet.now.tree }
+        requires master { is_minion fleet.now.tree me ≡ false }
         ensures ok { IfOk result (λ node. node ≡ starting_node fleet.now me) }
     {
         let core = MasterCore::new(alloc, fleet.ids_below(alloc, me)?)?;
