@@ -1,5 +1,5 @@
 -- Messages for a neighbour: their numbers are u32, and they are within the limits.
-use Rattle.std.proofs.Common.{◌≡◌, ℕ, ◌+◌, ◌-◌, ◌<◌, ◌^◌, inl, inr, All, take, drop, arith, List, [], ◌∷◌, ◌++◌, length}
+use Rattle.std.proofs.Common.{◌≡◌, ℕ, ◌+◌, ◌-◌, ◌<◌, ◌≤◌, ◌^◌, sym, subst, inl, inr, All, take, drop, arith, List, [], ◌∷◌, ◌++◌, length}
 use Rattle.std.specs.Prelude.{flat_map}
 use Rattle.std.proofs.lemmas.Bool.{cases_lt}
 use Rattle.std.proofs.lemmas.List.{length-drop, drop_all}
@@ -10,6 +10,7 @@ use Rattle.salt_wire.specs.declared.message.Entry.{Entry}
 use Rattle.salt_wire.specs.declared.message.Message.{Message}
 use Rattle.salt_wire.specs.declared.message.Message.TheVariants as m
 use Rattle.salt_wire.specs.declared.message.Job.{Job}
+use Rattle.fleet_config.specs.Limits.{most_jobs}
 use Rattle.fleet_config.specs.Tree.{Tree, id_of, minions}
 use Rattle.node_core.specs.Counts.{known_count}
 use Rattle.node_core.specs.Records.{log, jobs, jobs_held}
@@ -67,8 +68,10 @@ dropped_ups id n log i h f = elim (cases_lt n (length log)) [
   | inr l ↦ rw (drop_all n log l) (All-nil Within)
 ]
 
-pub down_fits : (child max : ℕ) (node : NodeState) → length (jobs node.records) < 2 ^ 32 → All JobFits (jobs node.records) → All Within (take max (pending_down child node))
-down_fits child max node h f = All-take Within max _ (dropped_pubs (known_count node.known_jobs child) (jobs node.records) h f)
+pub pubs_after : (known max : ℕ) (jobs : List Job) (old : List Message) → old ≡ [] → length jobs ≤ most_jobs → All JobFits jobs
+    → All Within (take max (old ++ pubs_from known (drop known jobs)))
+pubs_after known max jobs old none few f =
+    All-take Within max _ (All-append Within old _ (subst (λ (l : List Message). All Within l) (sym none) (All-nil Within)) (dropped_pubs known jobs (omega arith) f))
 
 pub ups_after : (id : List ℕ) (n max : ℕ) (entries : List Entry) (old : List Message) → IsId id → length entries < 2 ^ 32 → All EntryFits entries
     → All Within old → All Within (take max (old ++ ups_from id n (drop n entries)))

@@ -193,8 +193,9 @@ impl<'f> Node<'f> {
         ensures fault { IfErr result (DeniesOrder moment
             (order kind tgt.now fun.now args.now) self.old) }
     {
-        let jobs = self.jobs();
-        let job = order_job(self.alloc, self.fleet, moment, kind, tgt, fun, args, jobs)?;
+        let _nodes = self.fleet.count();
+        let (fleet, jobs) = (self.fleet(), self.jobs());
+        let job = order_job(self.alloc, fleet, moment, kind, tgt, fun, args, jobs)?;
         let jid = job.jid;
         self.add_publish(job)?;
         Ok(jid)
@@ -274,11 +275,13 @@ impl<'f> Node<'f> {
 
     // The jobs that a child is not known to hold.
     fn pending_down(&self, child: NodeId, max: u32) -> Result<Vec<Message>, AllocError>
-        ensures { IfOk result (λ v. v.items ≡ take max (pending_down child self.now.state)) }
+        ensures ok { IfOk result (λ v. v.items ≡ take max (pending_down child self.now.state)) }
+        ensures fits { IfOk result (λ v. All Within v.items) }
     {
         let mut messages = Vec::new(self.alloc);
         let known = self.known_jobs.known(child);
-        push_pubs(self.alloc, &mut messages, known, self.jobs(), max)?;
+        let jobs = self.jobs();
+        push_pubs(self.alloc, &mut messages, known, jobs, max)?;
         Ok(messages)
     }
 
@@ -312,7 +315,8 @@ impl<'f> Node<'f> {
         let id = self.fleet.id(minion);
         let _bytes = id.as_bytes();
         let known = self.known_ups.known(minion);
-        push_entries(self.alloc, out, id, known, self.log(&id), max)?;
+        let log = self.log(&id);
+        push_entries(self.alloc, out, id, known, log, max)?;
         Ok(())
     }
 
