@@ -1,5 +1,5 @@
 -- What each turn keeps, and a run.
-use Rattle.std.proofs.Common.{◌+◌, ◌<◌, List, [], ◌∷◌, length, arith}
+use Rattle.std.proofs.Common.{List, [], ◌∷◌, arith}
 use Rattle.std.specs.List.{AllByRecursion}
 use Rattle.fleet_config.specs.Fleet.{FleetConfig, IsFleet}
 use Rattle.node_core.specs.Publications.{order}

@@ -1,6 +1,6 @@
 -- How many packets a settle sends.
 use Rattle.std.proofs.Common.{◌≡◌, ℕ, zero, suc, ◌+◌, ◌-◌, ◌*◌, ◌<◌, ◌≤◌, ◌⊎◌, ◌∙◌, sym, ap, refl, inl, inr, Bool, true, false, max, List, [], ◌∷◌, length, arith, le_refl}
-use Rattle.std.specs.Prelude.{map, fold, filter, sum_by, ◌&&◌, if◌then◌else◌}
+use Rattle.std.specs.Prelude.{map, fold, filter, ◌&&◌, if◌then◌else◌}
 use Rattle.std.specs.List.{AllByRecursion}
 use Rattle.std.proofs.lemmas.Bool.{cases_eq, lt-ltb}
 use Rattle.std.proofs.lemmas.Bool.Decides.{leb_tells}
@@ -16,13 +16,13 @@ use Rattle.tree_world.specs.Network.{Network, node_at, top_jobs}
 use Rattle.tree_world.specs.Settle.{after_settle, children, down_steps, down_child, down_children, down_pass, up_steps, up_minion, up_minions, up_pass, known_jobs_at, known_ups_at, node_log}
 use Rattle.tree_laws.specs.Invariant.{Holds}
 use Rattle.tree_laws.specs.Settles.{level_count, entry_count, SendsFewPackets}
-use Rattle.tree_laws.proofs.Lists.{prefix_length, all_imply}
+use Rattle.tree_laws.proofs.Lists.{prefix_length}
 use Rattle.tree_laws.proofs.Trees.{IsChild, child, branch_in, enough, parent_before, parent_test, within_cases, within_test, deep, minion_low}
 use Rattle.tree_laws.proofs.Places.{IsMinionIn}
 use Rattle.tree_laws.proofs.Turns.{minions_in}
 use Rattle.tree_laws.proofs.Ascends.{up_to_has}
 use Rattle.tree_laws.proofs.Rows.{top_within}
-use Rattle.tree_laws.proofs.Passes.{children_of, down_steps_hold, down_children_hold, down_pass_holds, up_steps_hold, up_minions_hold}
+use Rattle.tree_laws.proofs.Passes.{children_of, down_steps_hold, down_pass_holds, up_steps_hold, up_minions_hold}
 use Rattle.tree_laws.proofs.Downs.{Later, later_same, later_trans, held_most, HasToldChild, child_told}
 use Rattle.tree_laws.proofs.Chains.{chain}
 use Rattle.tree_laws.proofs.Ups.{LaterUp, later_up_same, later_up_trans, HasToldParent, parent_told}

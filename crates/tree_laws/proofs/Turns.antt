@@ -10,20 +10,15 @@ use Rattle.salt_wire.specs.declared.message.Entry.{Entry}
 use Rattle.salt_wire.specs.declared.deed.Deed.TheVariants.{Publish, Boot}
 use Rattle.salt_wire.specs.declared.message.Message.{Message}
 use Rattle.fleet_config.specs.Limits.{most_jobs}
-use Rattle.fleet_config.specs.Fleet.{FleetConfig, IsFleet}
+use Rattle.fleet_config.specs.Fleet.{FleetConfig}
 use Rattle.fleet_config.specs.Tree.{Tree, member, id_of, held_of, parent_of, is_minion, is_parent, is_within, IsTree, up_to, minions, runs_jobs}
 use Rattle.minion_core.specs.Flat.{is_later}
 use Rattle.node_core.specs.Records.{jobs, jobs_held, log}
 use Rattle.node_core.specs.Counts.{known_count}
 use Rattle.node_core.specs.Node.{NodeState, with_record, is_here, pubs_from, ups_from, pending_ups, pending, first_held, first_node}
-use Rattle.node_core.specs.Publications.{order}
 use Rattle.exec_functions.specs.declared.holdings.Holdings.{Holdings}
 use Rattle.std.specs.Prelude.{min}
-use Rattle.fleet_turns.specs.declared.turn.Turn.{Turn}
-use Rattle.fleet_turns.specs.declared.turn.Turn.TheVariants as kind
 use Rattle.tree_world.specs.Network.{Network, node_at, start, top_jobs, with_node_at, with_packets, packet, sent_packets, after_receipt, after_delivery, most_sent}
-use Rattle.tree_world.specs.Runs.{after, after_all}
-use Rattle.fleet_turns.specs.Turns.{IsTurn}
 use Rattle.tree_laws.specs.Invariant.{Fits, IsSent, Names, IsNode, IsPair, IsReadableJob, Holds}
 use Rattle.tree_laws.proofs.Lists.{prefix_same, all_join, all_imply, all_at, all_map, all_take, at_drop}
 use Rattle.tree_laws.proofs.Trees.{IsChild, child, parent_before, both}
@@ -31,7 +26,6 @@ use Rattle.tree_laws.proofs.Places.{IsMinionIn, here_minion}
 use Rattle.tree_laws.proofs.Chains.{rising_push}
 use Rattle.tree_laws.proofs.Records.{log_publish, jobs_push, held_push}
 use Rattle.tree_laws.proofs.Steps.{names_more, pair_above_more}
-use Rattle.tree_laws.proofs.Published.{published_either}
 use Rattle.tree_laws.proofs.Calls.{at_same, node_step, packets_step, received_step}
 
 -- a packet to a node that is there is received, and another does nothing

@@ -1,16 +1,12 @@
 -- A settle, computed: a job for both minions of a top. It sends twelve packets, as many as the bound allows.
-use Rattle.std.proofs.Common.{◌≡◌, ℕ, ◌+◌, ◌-◌, ◌*◌, ◌∙◌, refl, ap, List, [], ◌∷◌, length}
-use Rattle.std.specs.Prelude.{Result, Ok}
-use Rattle.salt_wire.specs.declared.message.Job.{Job}
+use Rattle.std.proofs.Common.{◌≡◌, ℕ, ◌+◌, ◌-◌, ◌*◌, ◌∙◌, refl, ap, [], ◌∷◌, length}
+use Rattle.std.specs.Prelude.{Ok}
 use Rattle.salt_wire.specs.declared.message.Message.TheVariants.{Pub, Have}
-use Rattle.fleet_config.specs.Fleet.{FleetConfig}
 use Rattle.fleet_config.specs.Tree.{branch_by, level_by, plain_member}
 use Rattle.fleet_config.specs.declared.fleet.Role.TheVariants as role
-use Rattle.node_core.specs.declared.faults.PublishRefusal.{PublishRefusal}
 use Rattle.node_core.specs.Node.{first_node}
-use Rattle.fleet_turns.specs.declared.turn.Turn.{Turn}
 use Rattle.fleet_turns.specs.declared.turn.Turn.TheVariants.{Settle}
-use Rattle.tree_world.specs.Network.{Network, start, top_jobs, packet, after_publication}
+use Rattle.tree_world.specs.Network.{Network, start, packet, after_publication}
 use Rattle.tree_world.specs.Settle.{down_steps, up_steps, down_child, down_pass, up_pass, after_settle}
 use Rattle.tree_laws.specs.Laws.{network_after}
 use Rattle.tree_laws.specs.Settles.{entry_count, level_count}

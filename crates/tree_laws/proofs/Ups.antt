@@ -6,7 +6,6 @@ use Rattle.std.proofs.lemmas.List.{length_push, length-set}
 use Rattle.std.proofs.lemmas.Bool.{cases_eq, cases_lt, eq-eqb, lt-ltb}
 use Rattle.std.proofs.lemmas.Bool.Decides.{eqb_tells, leb_tells}
 use Rattle.std.proofs.lemmas.Option.{slice_get_past}
-use Rattle.salt_wire.specs.declared.message.Job.{Job}
 use Rattle.salt_wire.specs.declared.message.Entry.{Entry}
 use Rattle.salt_wire.specs.declared.message.Message.TheVariants as msg
 use Rattle.salt_wire.specs.declared.deed.Deed.{Deed}

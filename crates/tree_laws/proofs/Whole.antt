@@ -1,5 +1,5 @@
 -- After a settle each report is whole, and stays so for the jobs that were there.
-use Rattle.std.proofs.Common.{◌≡◌, ℕ, zero, suc, ◌+◌, ◌<◌, ◌≤◌, ◌∙◌, sym, ap, refl, subst, inl, inr, true, false, List, [], ◌∷◌, ◌++◌, length, take, arith, le_refl}
+use Rattle.std.proofs.Common.{◌≡◌, ℕ, zero, suc, ◌+◌, ◌<◌, ◌∙◌, sym, ap, refl, subst, inl, inr, true, List, [], ◌∷◌, ◌++◌, length, take, arith, le_refl}
 use Rattle.std.specs.Prelude.{All, Option, None, Some, filter_map}
 use Rattle.std.specs.List.{AllByRecursion, cons_option}
 use Rattle.std.proofs.lemmas.List.{take_all}
