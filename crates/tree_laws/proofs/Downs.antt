@@ -62,7 +62,7 @@ two_keep nodes i j a b lj pb k ni = elim (cases_eq k j) [
   | inr nj ↦ rw (at_other (set nodes i a) k j b nj, at_other nodes k i a ni) refl
 ]
 
--- one publication and its reply
+-- a job went to child c, and its reply came: the child is known to hold more
 pub record HasSentDown (p c : ℕ) (w v : Network) : Type 0 where
   pub later : Later w v
   pub held : jobs_held (node_at v.nodes p).records ≡ jobs_held (node_at w.nodes p).records
@@ -82,6 +82,7 @@ exchange_is f from to message reply w a b lt lf first other second =
     let low : from < length (set w.nodes to a) = rw length-set lf in
     rw (at_end w.packets (packet from to message), lt-ltb to (length w.nodes) lt, first, after_two w.packets (packet from to message) (packet to from reply), lt-ltb from (length (set w.nodes to a)) low, other, second) refl
 
+-- so it is where node p has a job that the child is not known to hold
 pub job_sent : (f : FleetConfig) (w : Network) (p c : ℕ) → IsTree f.tree → Holds f.tree w → is_parent f.tree p c ≡ true
     → known_jobs_at w p c < jobs_held (node_at w.nodes p).records → HasSentDown p c w (down_step f p c w)
 job_sent f w p c fleet h par l =
@@ -138,6 +139,7 @@ job_sent f w p c fleet h par l =
 abbrev pub IsFull : Network → ℕ → Type 0
 IsFull w i = jobs_held (node_at w.nodes i).records ≡ length (top_jobs w)
 
+-- no node holds more jobs than the top
 pub held_most : (f : Tree) (w : Network) (i : ℕ) → Holds f w → i < length f → jobs_held (node_at w.nodes i).records ≤ length (top_jobs w)
 held_most f w i h l = either (is_minion f i) refl where
   either : (t : Bool) → is_minion f i ≡ t → jobs_held (node_at w.nodes i).records ≤ length (top_jobs w)
@@ -154,6 +156,7 @@ full_later f w v i h l late full =
 nothing_down : (f : FleetConfig) (w : Network) (p c : ℕ) → length (jobs (node_at w.nodes p).records) ≤ known_jobs_at w p c → down_step f p c w ≡ w
 nothing_down f w p c l = rw (slice_get_past (node_jobs w p) (known_jobs_at w p c) l) refl
 
+-- child c is known to hold all jobs of node p, and two packets were sent for each job that it was not known to hold
 pub record HasToldChild (p c : ℕ) (w v : Network) : Type 0 where
   pub later : Later w v
   pub held : jobs_held (node_at v.nodes p).records ≡ jobs_held (node_at w.nodes p).records
@@ -210,6 +213,7 @@ child_full f p c w fleet h par full =
     let z = ap (λ (js : List Job). length js) d.later.top in
     (d.later, omega arith)
 
+-- and so do all of its children
 pub children_full : (f : FleetConfig) (p : ℕ) → IsTree f.tree → p < length f.tree → (cs : List ℕ) → AllByRecursion (λ c. is_parent f.tree p c ≡ true) cs → (w : Network) → Holds f.tree w → IsFull w p
     → Later w (down_children f p cs w) × AllByRecursion (IsFull (down_children f p cs w)) cs
 children_full f p fleet l [] all w h full = (later_same w, tt)
@@ -226,6 +230,7 @@ pub kept_of : (P : ℕ → Type 0) (test : ℕ → Bool) (n x : ℕ) → x < n �
 kept_of P test n x l t all =
     All-contains P (filter test (up_to n)) x (All-from_recursion P (filter test (up_to n)) all) (filter_has test (up_to n) x (up_to_has n x l) t)
 
+-- after the first k nodes each child of one of them holds all jobs
 pub down_all : (f : FleetConfig) → IsTree f.tree → (k : ℕ) → k ≤ length f.tree → (w : Network) → Holds f.tree w
     → Later w (down_pass f k w) × ((c : ℕ) → 0 < c → c < length f.tree → parent_of f.tree c < k → IsFull (down_pass f k w) c)
 down_all f fleet zero l w h = (later_same w, λ c lo up z. absurd (omega arith))

@@ -28,7 +28,8 @@ use Rattle.tree_laws.proofs.Chains.{chain}
 use Rattle.tree_laws.proofs.Ups.{LaterUp, later_up_same, later_up_trans, HasToldParent, parent_told}
 use Rattle.tree_laws.proofs.Sums.{added, added_is, total, passing, one_if, total_most, added_join}
 
--- the down pass
+-- ---- the way down: two packets for each job and each child
+
 child_packets : (f : FleetConfig) (p c j : ℕ) (w : Network) → IsTree f.tree → Holds f.tree w → is_parent f.tree p c ≡ true → length (top_jobs w) ≡ j
     → Later w (down_child f p c w) × (length (down_child f p c w).packets ≤ length w.packets + 2 * j)
 child_packets f p c j w fleet h par e =
@@ -107,7 +108,9 @@ down_most f j n =
     let e = for_children_sum j n in
     omega arith
 
--- the up pass
+-- ---- the way up: two packets for each entry of a minion and each node at or above it but the top
+
+-- how many entries minion m has in its own log
 own_log : Tree → Network → ℕ → ℕ
 own_log f w m = length (node_log f w m m)
 
@@ -140,6 +143,7 @@ minions_packets f b c fleet lo up (m ∷ ms) all w h late =
     let x = one.1 in let y = rest.1 in
     (rest.0, omega arith)
 
+-- minion m lies at or below the place after c
 abbrev in_next : Tree → ℕ → ℕ → Bool
 in_next f c m = is_minion f m && is_within f (suc c) m
 
@@ -159,7 +163,8 @@ up_packets f b fleet (suc k) l w h late =
     let x = here.1 in let y = rest.1 in
     rw (lt-ltb 0 c (omega arith)) (rest.0, omega arith)
 
--- the places at or above a minion, but the top, are fewer than its level
+-- ---- the places at or above a node, but the top, are fewer than its level
+
 enough_down : (f : Tree) → IsTree f → (k c q : ℕ) → q ≤ k → branch_by f k c q ≡ branch_by f q c q
 enough_down f h zero c q l = let e : q ≡ 0 = omega arith in rw e refl
 enough_down f h (suc k) c q l = elim (cases_eq q (suc k)) [
@@ -183,6 +188,7 @@ within_up f h c (suc m) ne i = elim (within_cases f c (suc m) i) [
   ]
 ]
 
+-- node m lies at or below the place after c
 abbrev below_next : Tree → ℕ → ℕ → Bool
 below_next f c m = is_within f (suc c) m
 
@@ -270,6 +276,8 @@ level_most f m l =
     let ms : List ℕ = up_to (length f) in
     let P : ℕ → Type 0 = λ x. level f x ≤ level_count f in
     All-contains P ms m (All-from_recursion P ms (fold_most (level f) 0 ms).1) (up_to_has (length f) m l)
+
+-- ---- both ways
 
 pub bound_law : (f : FleetConfig) (w : Network) → IsTree f.tree → Holds f.tree w → SendsFewPackets f.tree w (after_settle f w)
 bound_law f w fleet h = from (length f.tree) refl fleet.some where

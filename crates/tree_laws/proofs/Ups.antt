@@ -41,6 +41,7 @@ later_up_same f w = record { later = later_same w; own = λ k e. refl }
 pub later_up_trans : (f : Tree) (u w v : Network) → LaterUp f u w → LaterUp f w v → LaterUp f u v
 later_up_trans f u w v a b = record { later = later_trans u w v a.later b.later; own = λ k e. b.own k e ∙ a.own k e }
 
+-- an entry of minion m went up from node c, and its reply came: the parent is known to hold more
 pub record HasSentUp (f : Tree) (c m : ℕ) (w v : Network) : Type 0 where
   pub later : LaterUp f w v
   pub from : (node_at v.nodes c).records ≡ (node_at w.nodes c).records
@@ -66,6 +67,7 @@ through_child : (f : Tree) (p c m : ℕ) → IsTree f → is_parent f p c ≡ tr
 through_child f p c m fleet par i =
     rw (place_at f m fleet (minion_low f m i.minion), i.minion) (eq-eqb (branch f p m) c (branch_in f fleet p c m par i.within))
 
+-- so it is where node c has an entry that its parent is not known to hold
 pub entry_sent : (f : FleetConfig) (w : Network) (c m : ℕ) → IsTree f.tree → Holds f.tree w → 0 < c → c < length f.tree → IsMinionIn f.tree c m
     → known_ups_at w c m < length (node_log f.tree w c m) → HasSentUp f.tree c m w (up_step f c m w)
 entry_sent f w c m fleet h lo up i l =
@@ -123,6 +125,8 @@ entry_sent f w c m fleet h lo up i l =
 nothing_up : (f : FleetConfig) (w : Network) (c m : ℕ) → length (node_log f.tree w c m) ≤ known_ups_at w c m → up_step f c m w ≡ w
 nothing_up f w c m l = rw (slice_get_past (node_log f.tree w c m) (known_ups_at w c m) l) refl
 
+-- the parent of node c is known to hold all entries of minion m that c has, and two packets were sent for each that it was not known to
+-- hold
 pub record HasToldParent (f : Tree) (c m : ℕ) (w v : Network) : Type 0 where
   pub later : LaterUp f w v
   pub from : (node_at v.nodes c).records ≡ (node_at w.nodes c).records
@@ -168,6 +172,7 @@ whole_later f w v c m e late whole =
     let b = prefix_length _ _ (log_prefix (id_of f m) _ _ (late.later.grows c)) in
     omega arith
 
+-- the parent of a node that has a minion's whole log has it too
 pub minion_whole : (f : FleetConfig) (c m : ℕ) (w : Network) → IsTree f.tree → Holds f.tree w → 0 < c → c < length f.tree → IsMinionIn f.tree c m → IsWhole f.tree w c m
     → LaterUp f.tree w (up_minion f c m w) × IsWhole f.tree (up_minion f c m w) (parent_of f.tree c) m
 minion_whole f c m w fleet h lo up i whole =
@@ -195,6 +200,7 @@ minions_whole f c fleet lo up (m ∷ ms) all w h whole =
       whole_all [] all v late h = tt
       whole_all (x ∷ xs) all v late h = (whole_later f.tree w v c x all.0.minion late h.0, whole_all xs all.1 v late h.1)
 
+-- after the nodes from k on each parent of a node has the whole log of each minion at or below that node
 pub up_all : (f : FleetConfig) → IsTree f.tree → (k : ℕ) → k ≤ length f.tree → (w : Network) → Holds f.tree w
     → ((d m : ℕ) → k ≤ d → 0 < d → d < length f.tree → IsMinionIn f.tree d m → IsWhole f.tree w (parent_of f.tree d) m)
     → LaterUp f.tree w (up_pass f k w) × ((d m : ℕ) → 0 < d → d < length f.tree → IsMinionIn f.tree d m → IsWhole f.tree (up_pass f k w) (parent_of f.tree d) m)

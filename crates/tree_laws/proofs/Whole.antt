@@ -42,6 +42,7 @@ use Rattle.tree_laws.proofs.Grows.{run_grows, top_grows}
 same_row : (id : List ℕ) (a b : Option Outcome) (xs ys : List Row) → a ≡ b → xs ≡ ys → cons_option (row_of id a) xs ≡ cons_option (row_of id b) ys
 same_row id a b xs ys e g = rw (e, g) refl
 
+-- both give the same of minion m
 abbrev IsSame : Tree → (List ℕ → Option Outcome) → (List ℕ → Option Outcome) → ℕ → Type 0
 IsSame f some more m = some (id_of f m) ≡ more (id_of f m)
 
@@ -65,6 +66,7 @@ at_place : (f : Tree) (all : List Job) (m seq : ℕ) → IsTree f → is_minion 
     → return_of seq (flat_up 0 (id_of f m) (held_of f (place_of f (id_of f m))) all) ≡ flat_outcome f all m seq
 at_place f all m seq fleet z = ap (λ i. return_of seq (flat_up 0 (id_of f m) (held_of f i) all)) (place_at f m fleet (minion_low f m z))
 
+-- the report below a node, where it has the flat outcome of each minion
 report_whole : (f : Tree) (w : Network) (all : List Job) (p seq : ℕ) → IsTree f
     → ((m : ℕ) → IsMinionIn f p m → return_of seq (node_log f w p m) ≡ flat_outcome f all m seq) → report_below f w p seq ≡ flat_report_below f all p seq
 report_whole f w all p seq fleet same =
@@ -83,6 +85,7 @@ whole_outcome f v all p m seq h i top held same =
     let ran : take (jobs_held (node_at v.nodes m).records) (top_jobs v) ≡ all = rw top (take_all (jobs_held (node_at v.nodes m).records) all (omega arith)) in
     ap (return_of seq) same ∙ sym (return_acts seq (node_log f v m m)) ∙ ap (return_of seq) (a.entries ∙ ap (flat_up 0 (id_of f m) (held_of f m)) ran)
 
+-- a settle leaves nothing to be told
 pub settle_law : (f : FleetConfig) (w : Network) → IsTree f.tree → Holds f.tree w → HasSettled f.tree (top_jobs w) (after_settle f w)
 settle_law f w fleet h =
     let n : ℕ = length f.tree in

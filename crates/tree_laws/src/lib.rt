@@ -48,13 +48,11 @@ pub fn whole_runs()
     ensures front { (f : FleetConfig) → HasFronts f }
 {}
 
-/// Does nothing. Its contract is a list of laws on settles, each from the network after any run.
+/// Does nothing. Its contract is a list of laws on a settle from the network after any run.
 ///
-/// - `settles`: after a settle each node holds all jobs, each master has the whole log of each minion below it, and each report is
-///   that of the flat fleet.
-/// - `settle_bound`: a settle sends at most two packets for each job and each node but the top, and two for each entry and each
-///   level but the first.
-/// - `reports_whole`: whatever comes after a settle, the report of each job that the top had then stays that of the flat fleet.
+/// - `settles`: each node then holds all jobs, each master the whole log of each minion below it, and each report is the flat one.
+/// - `settle_bound`: two packets at most for each job and each node but the top, and two for each entry and each level but the first.
+/// - `reports_whole`: whatever comes later, the report of each job that the top had then stays that of the flat fleet.
 pub fn whole_settles()
     ensures settles { HoldsAfterRuns (λ f w. HasSettled f.tree (top_jobs w) (after_settle f w)) }
     ensures settle_bound { HoldsAfterRuns (λ f w. SendsFewPackets f.tree w (after_settle f w)) }
