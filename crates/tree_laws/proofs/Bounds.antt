@@ -22,12 +22,15 @@ use Rattle.fleet_turns.specs.declared.turn.Turn.{Turn}
 use Rattle.fleet_turns.specs.declared.turn.Turn.TheVariants as kind
 use Rattle.fleet_turns.specs.Turns.{IsTurn}
 use Rattle.tree_world.specs.Network.{Network, node_at, start, top_jobs, after_receipt, after_delivery}
+use Rattle.tree_world.specs.Settle.{after_settle}
 use Rattle.tree_world.specs.Runs.{after, after_all}
 use Rattle.tree_laws.specs.Invariant.{Holds}
 use Rattle.tree_laws.proofs.Records.{jobs_push}
 use Rattle.tree_laws.proofs.Calls.{at_same, at_other}
 use Rattle.tree_laws.proofs.Published.{published_either}
-use Rattle.tree_laws.proofs.Turns.{by_receiver, after_step, first_jobs, start_holds}
+use Rattle.tree_laws.proofs.Turns.{by_receiver, first_jobs, start_holds}
+use Rattle.tree_laws.proofs.Parts.{settle_keeps}
+use Rattle.tree_laws.proofs.After.{after_step}
 
 -- ---- no message changes the jobs of the top, which has no parent
 
@@ -73,6 +76,10 @@ delivered_top f w i = elim (slice_get_cases w.packets i).1 [
   | inr c ↦ rw c.1 refl
 ]
 
+-- a settle delivers messages only
+pub settled_top : (f : FleetConfig) (w : Network) → top_jobs (after_settle f w) ≡ top_jobs w
+settled_top f w = settle_keeps f (λ u v. top_jobs v ≡ top_jobs u) (λ v. refl) (λ u v x a b. b ∙ a) (λ v p. refl) (delivered_top f) w
+
 -- ---- every run
 
 after_bound : (f : FleetConfig) (turn : Turn) (w : Network) → 0 < length w.nodes → length (top_jobs w) ≤ f.max_jobs → length (top_jobs (after f turn w)) ≤ f.max_jobs
@@ -82,6 +89,7 @@ after_bound f (kind.Publish moment k tgt fun args) w some h =
     (let few = new.few in let e = length_push (top_jobs w) job in omega arith))
 after_bound f (kind.Send from to count) w some h = h
 after_bound f (kind.Deliver i) w some h = subst (λ js. length js ≤ f.max_jobs) (sym (delivered_top f w i)) h
+after_bound f kind.Settle w some h = subst (λ js. length js ≤ f.max_jobs) (sym (settled_top f w)) h
 after_bound f (kind.Report jid) w some h = h
 after_bound f (kind.Exit jid) w some h = h
 after_bound f kind.Jobs w some h = h

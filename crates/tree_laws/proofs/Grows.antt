@@ -24,6 +24,7 @@ use Rattle.tree_laws.proofs.Records.{jobs_prefix}
 use Rattle.tree_laws.proofs.Calls.{at_grows}
 use Rattle.tree_laws.proofs.Published.{published_either}
 use Rattle.tree_laws.proofs.Turns.{by_receiver}
+use Rattle.tree_laws.proofs.Parts.{settle_keeps}
 
 -- one call on a node
 recorded_grows : (t : Bool) (new : Deed) (node : NodeState) → IsPrefix node.records (with_next_record t new node).records
@@ -69,6 +70,9 @@ after_grows f (kind.Publish moment k tgt fun args) w =
     (λ job new. set_grows w.nodes 0 (with_record (Publish job) (node_at w.nodes 0)) (Publish job ∷ [], refl))
 after_grows f (kind.Send from to count) w = λ i. prefix_same (node_at w.nodes i).records
 after_grows f (kind.Deliver i) w = delivered_grows f w i
+after_grows f kind.Settle w =
+    settle_keeps f Grew (λ v i. prefix_same (node_at v.nodes i).records) (λ u v x a b i. prefix_trans _ _ _ (a i) (b i))
+    (λ v p i. prefix_same (node_at v.nodes i).records) (delivered_grows f) w
 after_grows f (kind.Report jid) w = λ i. prefix_same (node_at w.nodes i).records
 after_grows f (kind.Exit jid) w = λ j. prefix_same (node_at w.nodes j).records
 after_grows f kind.Jobs w = λ j. prefix_same (node_at w.nodes j).records

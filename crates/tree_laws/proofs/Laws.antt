@@ -71,8 +71,12 @@ records_join k id h [] ys = let e : k + 0 ≡ k = omega arith in rw e refl
 records_join k id h (x ∷ xs) ys = let e : k + suc (length xs) ≡ k + 1 + length xs = omega arith in
     rw (records_join (k + 1) id (held_after h (job_record k x id h)) xs ys, e) refl
 
+pub flat_join : (id : List ℕ) (h : Holdings) (xs ys : List Job)
+    → flat_up 0 id h (xs ++ ys) ≡ flat_up 0 id h xs ++ flat_up (0 + length xs) id (held_by h (flat_records 0 id h xs)) ys
+flat_join id h xs ys = ap (flat_map entries_in) (records_join 0 id h xs ys) ∙ flat_map_join (flat_records 0 id h xs) _
+
 pub flat_prefix : (id : List ℕ) (h : Holdings) (xs ys : List Job) → IsPrefix xs ys → IsPrefix (flat_up 0 id h xs) (flat_up 0 id h ys)
-flat_prefix id h xs ys p = (_, sym (flat_map_join (flat_records 0 id h xs) _) ∙ ap (flat_map entries_in) (sym (records_join 0 id h xs p.0)) ∙ ap (λ (l : List Job). flat_up 0 id h l) p.1)
+flat_prefix id h xs ys p = (_, sym (flat_join id h xs p.0) ∙ ap (λ (l : List Job). flat_up 0 id h l) p.1)
 
 pub flat_take : (c : ℕ) (id : List ℕ) (h : Holdings) (js : List Job) → IsPrefix (flat_up 0 id h (take c js)) (flat_up 0 id h js)
 flat_take c id h js = flat_prefix id h (take c js) js (drop c js, take-append-drop c js)

@@ -8,6 +8,9 @@ pub mod Chains
 pub mod Calls
 pub mod Published
 pub mod Turns
+pub mod Parts
+pub mod Passes
+pub mod After
 pub mod Ascends
 pub mod Rows
 pub mod Laws
@@ -15,4 +18,10 @@ pub mod Bounds
 pub mod Whence
 pub mod Grows
 pub mod Runs
+pub mod Downs
+pub mod Ups
+pub mod Sums
+pub mod PacketCounts
+pub mod Whole
 pub mod Example
+pub mod TwelvePackets

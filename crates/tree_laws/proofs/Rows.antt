@@ -45,7 +45,7 @@ under_top t h (suc k) m lo up = elim (branch_cases t k 0 m) [
   above : (n : ℕ) → (n ≡ 0 → ⊥) → 0 < n
   above n f = elim (cases_lt 0 n) [ inl l ↦ l | inr u ↦ absurd (f (omega arith)) ]
 
-top_within : (t : Tree) (m : ℕ) → IsTree t → is_within t 0 m ≡ true
+pub top_within : (t : Tree) (m : ℕ) → IsTree t → is_within t 0 m ≡ true
 top_within t m h = elim (cases_lt 0 m) [
   | inl l ↦ within_test t 0 m (inr (under_top t h m m l (omega arith)))
   | inr u ↦ within_test t 0 m (inl (omega arith))

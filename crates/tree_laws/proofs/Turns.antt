@@ -10,20 +10,15 @@ use Rattle.salt_wire.specs.declared.message.Entry.{Entry}
 use Rattle.salt_wire.specs.declared.deed.Deed.TheVariants.{Publish, Boot}
 use Rattle.salt_wire.specs.declared.message.Message.{Message}
 use Rattle.fleet_config.specs.Limits.{most_jobs}
-use Rattle.fleet_config.specs.Fleet.{FleetConfig, IsFleet}
+use Rattle.fleet_config.specs.Fleet.{FleetConfig}
 use Rattle.fleet_config.specs.Tree.{Tree, member, id_of, held_of, parent_of, is_minion, is_parent, is_within, IsTree, up_to, minions, runs_jobs}
 use Rattle.minion_core.specs.Flat.{is_later}
 use Rattle.node_core.specs.Records.{jobs, jobs_held, log}
 use Rattle.node_core.specs.Counts.{known_count}
 use Rattle.node_core.specs.Node.{NodeState, with_record, is_here, pubs_from, ups_from, pending_ups, pending, first_held, first_node}
-use Rattle.node_core.specs.Publications.{order}
 use Rattle.exec_functions.specs.declared.holdings.Holdings.{Holdings}
 use Rattle.std.specs.Prelude.{min}
-use Rattle.fleet_turns.specs.declared.turn.Turn.{Turn}
-use Rattle.fleet_turns.specs.declared.turn.Turn.TheVariants as kind
 use Rattle.tree_world.specs.Network.{Network, node_at, start, top_jobs, with_node_at, with_packets, packet, sent_packets, after_receipt, after_delivery, most_sent}
-use Rattle.tree_world.specs.Runs.{after, after_all}
-use Rattle.fleet_turns.specs.Turns.{IsTurn}
 use Rattle.tree_laws.specs.Invariant.{Fits, IsSent, Names, IsNode, IsPair, IsReadableJob, Holds}
 use Rattle.tree_laws.proofs.Lists.{prefix_same, all_join, all_imply, all_at, all_map, all_take, at_drop}
 use Rattle.tree_laws.proofs.Trees.{IsChild, child, parent_before, both}
@@ -31,7 +26,6 @@ use Rattle.tree_laws.proofs.Places.{IsMinionIn, here_minion}
 use Rattle.tree_laws.proofs.Chains.{rising_push}
 use Rattle.tree_laws.proofs.Records.{log_publish, jobs_push, held_push}
 use Rattle.tree_laws.proofs.Steps.{names_more, pair_above_more}
-use Rattle.tree_laws.proofs.Published.{published_either}
 use Rattle.tree_laws.proofs.Calls.{at_same, node_step, packets_step, received_step}
 
 -- a packet to a node that is there is received, and another does nothing
@@ -63,7 +57,7 @@ master_add f a job z h = record {
   names = λ id. rw (log_publish, held_push) (all_imply (Names (jobs_held a.records)) (Names (jobs_held a.records + 1)) (names_more _ _ (omega arith)) (log id a.records) (h.names id));
 }
 
-add_step : (f : Tree) (w : Network) (job : Job) → IsTree f → Holds f w → length (top_jobs w) < most_jobs → is_later (top_jobs w) job ≡ true → IsReadableJob job
+pub add_step : (f : Tree) (w : Network) (job : Job) → IsTree f → Holds f w → length (top_jobs w) < most_jobs → is_later (top_jobs w) job ≡ true → IsReadableJob job
     → Holds f (with_node_at w 0 (with_record (Publish job) (node_at w.nodes 0)))
 add_step f w job fleet h few late readable =
     let a : NodeState = node_at w.nodes 0 in
@@ -126,7 +120,7 @@ not_both f a b fleet p =
           let dh : IsChild f b a = child f b a e in
           let y : b < a = rw dh.parent at (parent_before f a fleet dh.some) in omega arith)
 
-pending_fits : (f : Tree) (me to : ℕ) (node : NodeState) → IsTree f → (is_parent f me to ≡ true) ⊎ (is_parent f to me ≡ true) → AllByRecursion (Fits f me to node) (pending f me to node)
+pub pending_fits : (f : Tree) (me to : ℕ) (node : NodeState) → IsTree f → (is_parent f me to ≡ true) ⊎ (is_parent f to me ≡ true) → AllByRecursion (Fits f me to node) (pending f me to node)
 pending_fits f me to node fleet (inl p) =
     let count : ℕ = known_count node.known_jobs to in
     rw p (pubs_fit f me to node p count (drop count (jobs node.records)) (λ k job at. rw (at_drop count (jobs node.records) k) at at))
@@ -139,31 +133,13 @@ pending_fits f me to node fleet (inr p) =
           (minions f me) (minions_in f me),
     )
 
-send_step : (f : FleetConfig) (w : Network) (from to count : ℕ) → Holds f.tree w → from < length f.tree → to < length f.tree → AllByRecursion (Fits f.tree from to (node_at w.nodes from)) (pending f.tree from to (node_at w.nodes from))
+pub send_step : (f : FleetConfig) (w : Network) (from to count : ℕ) → Holds f.tree w → from < length f.tree → to < length f.tree → AllByRecursion (Fits f.tree from to (node_at w.nodes from)) (pending f.tree from to (node_at w.nodes from))
     → Holds f.tree (with_packets w (sent_packets f from to count w))
 send_step f w from to count h lf lt g =
     let all : List Message = pending f.tree from to (node_at w.nodes from) in
     packets_step f.tree w (sent_packets f from to count w) h
     (all_map (Fits f.tree from to (node_at w.nodes from)) (IsSent f.tree w.nodes) (packet from to) (λ message x. record { from = lf; to = lt; fits = x }) (take (min count most_sent) all)
     (all_take (Fits f.tree from to (node_at w.nodes from)) (min count most_sent) all g))
-
-pub after_step : (f : FleetConfig) (turn : Turn) (w : Network) → IsFleet f → IsTurn f turn → Holds f.tree w → Holds f.tree (after f turn w)
-after_step f (kind.Publish moment k tgt fun args) w fleet t h =
-    published_either (Holds f.tree) f w moment (order k tgt fun args) h
-    (λ job new. let l = fleet.limits.few_jobs in let few = new.few in add_step f.tree w job fleet.tree h (omega arith) new.later new.readable)
-after_step f (kind.Send from to count) w fleet t h = send_step f w from to count h t.0 t.1 (pending_fits f.tree from to (node_at w.nodes from) fleet.tree t.3)
-after_step f (kind.Deliver i) w fleet t h = delivered_step f w i fleet.tree h
-after_step f (kind.Report jid) w fleet t h = h
-after_step f (kind.Exit jid) w fleet t h = h
-after_step f kind.Jobs w fleet t h = h
-after_step f kind.Summary w fleet t h = h
-after_step f (kind.Data node) w fleet t h = h
-after_step f (kind.Counts node) w fleet t h = h
-after_step f (kind.Packet i) w fleet t h = h
-
-pub run_holds : (f : FleetConfig) (turns : List Turn) (w : Network) → IsFleet f → AllByRecursion (IsTurn f) turns → Holds f.tree w → Holds f.tree (after_all f turns w)
-run_holds f [] w fleet t h = h
-run_holds f (turn ∷ turns) w fleet t h = run_holds f turns (after f turn w) fleet t.1 (after_step f turn w fleet t.0 h)
 
 -- the start
 first_of : Bool → Holdings → NodeState

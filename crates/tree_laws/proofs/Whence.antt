@@ -17,8 +17,9 @@ use Rattle.tree_laws.proofs.Lists.{all_join}
 use Rattle.tree_laws.proofs.Records.{jobs_push}
 use Rattle.tree_laws.proofs.Calls.{at_same}
 use Rattle.tree_laws.proofs.Published.{published_either}
-use Rattle.tree_laws.proofs.Turns.{after_step, first_jobs, start_holds}
-use Rattle.tree_laws.proofs.Bounds.{delivered_top}
+use Rattle.tree_laws.proofs.Turns.{first_jobs, start_holds}
+use Rattle.tree_laws.proofs.After.{after_step}
+use Rattle.tree_laws.proofs.Bounds.{delivered_top, settled_top}
 
 -- each job of the top is that of a publication among these turns
 abbrev Told : FleetConfig → List Turn → Network → Type 0
@@ -32,6 +33,7 @@ after_told f all (kind.Publish moment k tgt fun args) w here some h =
     (record { moment = moment; order = order k tgt fun args; turn = here; tree = new.tree; is = new.is }, tt)))
 after_told f all (kind.Send from to count) w here some h = h
 after_told f all (kind.Deliver i) w here some h = subst (λ js. AllByRecursion (IsPublishedBy f all) js) (sym (delivered_top f w i)) h
+after_told f all kind.Settle w here some h = subst (λ js. AllByRecursion (IsPublishedBy f all) js) (sym (settled_top f w)) h
 after_told f all (kind.Report jid) w here some h = h
 after_told f all (kind.Exit jid) w here some h = h
 after_told f all kind.Jobs w here some h = h

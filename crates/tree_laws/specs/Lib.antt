@@ -1,3 +1,4 @@
 pub mod Lists
 pub mod Invariant
 pub mod Laws
+pub mod Settles

@@ -5,8 +5,10 @@ ghost use Rattle.std.specs.Prelude.{◌<◌, ℕ, All, List, length};
 ghost use Rattle.fleet_config.specs.Fleet.{FleetConfig, IsFleet};
 ghost use Rattle.fleet_turns.specs.declared.turn.Turn.{Turn};
 ghost use Rattle.tree_world.specs.Network.{Network, top_jobs};
+ghost use Rattle.tree_world.specs.Settle.{after_settle};
 ghost use Rattle.tree_laws.specs.Invariant.{Holds, IsSent};
 ghost use Rattle.tree_laws.specs.Laws.{HoldsAfterRuns, ArePrefixesOfParents, AreJobsInOrder, JobsArePublished, NamesHeldJobs, HaveActedOnce, AreOutcomesFlat, AreReportsFlat, ReportsStayFlat, AreReportsSoFar, HaveFlatRows, AllRowsAscend, IsTaken, RecordsGrow, RunsInParts, HasFronts};
+ghost use Rattle.tree_laws.specs.Settles.{HasSettled, SendsFewPackets, ReportsStayWhole};
 
 /// Does nothing. Its contract is a list of laws: who wants one of them calls it.
 ///
@@ -44,4 +46,15 @@ pub fn whole_runs()
     ensures grows { (f : FleetConfig) (turns : List Turn) (w : Network) → RecordsGrow f turns w }
     ensures after_append { (f : FleetConfig) → RunsInParts f }
     ensures front { (f : FleetConfig) → HasFronts f }
+{}
+
+/// Does nothing. Its contract is a list of laws on a settle from the network after any run.
+///
+/// - `settles`: each node then holds all jobs, each master the whole log of each minion below it, and each report is the flat one.
+/// - `settle_bound`: two packets at most for each job and each node but the top, and two for each entry and each level but the first.
+/// - `reports_whole`: whatever comes later, the report of each job that the top had then stays that of the flat fleet.
+pub fn whole_settles()
+    ensures settles { HoldsAfterRuns (λ f w. HasSettled f.tree (top_jobs w) (after_settle f w)) }
+    ensures settle_bound { HoldsAfterRuns (λ f w. SendsFewPackets f.tree w (after_settle f w)) }
+    ensures reports_whole { ReportsStayWhole }
 {}

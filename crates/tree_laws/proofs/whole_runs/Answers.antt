@@ -6,7 +6,8 @@ use Rattle.tree_world.specs.Network.{Network, start, top_jobs}
 use Rattle.tree_laws.specs.Invariant.{Holds}
 use Rattle.tree_laws.specs.Laws.{IsRun, network_after, IsReportFlat}
 use Rattle.tree_laws.proofs.Lists.{prefix_same}
-use Rattle.tree_laws.proofs.Turns.{run_holds, start_holds}
+use Rattle.tree_laws.proofs.Turns.{start_holds}
+use Rattle.tree_laws.proofs.After.{run_holds}
 use Rattle.tree_laws.proofs.Laws.{prefix_law, jobs_law, names_law, packets_law, acted_law, outcomes_law, report_law, so_far_law, none_stray_law}
 use Rattle.tree_laws.proofs.Bounds.{top_bound}
 use Rattle.tree_laws.proofs.Whence.{top_told}
