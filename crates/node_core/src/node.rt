@@ -6,7 +6,7 @@ ghost use Rattle.node_core.specs.Logs.{IsJobRecord};
 ghost use Rattle.node_core.specs.Publications.{order, Publishes, IsPublishFault};
 ghost use Rattle.node_core.specs.Steps.{IsRunBy, IsRunAnswer, booted_minion, first_stray_of, up_stray, Accepts, AcceptsJob, AcceptsEntry, after_job, after_run, AddsUps};
 ghost use Rattle.minion_core.specs.Faults.{IsRunFault};
-ghost use Rattle.exec_functions.specs.Limits.{AreWithin};
+ghost use Rattle.exec_functions.specs.Limits.{AreWithin, no_holdings};
 ghost use Rattle.salt_wire.specs.Limits.{JobFits};
 ghost use Rattle.salt_value.specs.declared.value.Value.TheVariants as v;
 ghost use Rattle.node_core.specs.declared.faults.PendFault.TheVariants.{NotNeighbour};
@@ -217,6 +217,7 @@ impl Node {
     /// What a minion holds. A master holds nothing.
     pub fn holdings(&self) -> Option<&Holdings>
         ensures value { option_copied result ≡ (if self.now.minion then Some self.now.held else None) }
+        ensures none { result ≡ None → self.now.held ≡ no_holdings }
     {
         match &self.logs {
             Logs::Own(core) => Some(core.held()),

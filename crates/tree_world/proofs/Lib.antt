@@ -1,3 +1,7 @@
 pub mod Orders
 mod Bodies
 mod Delivers
+mod Loops
+mod Brings
+mod RowCounts
+mod Minions

@@ -13,6 +13,7 @@ use crate::report::{row_count, rows_of, sort_by_id};
 use crate::text::{
     missing_text, number_of, packet_text, published_text, refused_text, rows_text, unknown_text,
 };
+use exec_functions::Holdings;
 use fleet_config::Fleet;
 use fleet_turns::Turn;
 use node_core::{Node, PendFault, PublishFault, TakeFault};
@@ -159,6 +160,7 @@ impl World {
     }
 
     // The network goes on by a turn, and answers the text that the turn prints.
+    #[tactic(auto, using(crate::proofs::Brings::settle_stops))]
     fn turn(&mut self, turn: &Turn) -> Result<Vec<u8>, Halt>
         requires { IsTurn self.old.fleet turn.now }
         ensures state { OnOk result (Follows turn.now self.old self.new.network) }
@@ -275,14 +277,16 @@ impl World {
     }
 
     // The line of what a minion holds.
+    #[tactic(auto, using(crate::proofs::Minions::minion_low))]
     fn data(&self, node: NodeId) -> Result<Vec<u8>, AllocError>
         requires { is_minion self.now.fleet.tree node ≡ true }
         ensures { IfOk result (λ v. v.items ≡ turn_text (Turn.Data node) self.now) }
     {
-        let Some(held) = self.nodes[node.index()].holdings() else {
-            unreachable!();
-        };
-        data_text(self.alloc, &self.fleet.id(node), held)
+        let id = self.fleet.id(node);
+        match self.nodes[node.index()].holdings() {
+            Some(held) => data_text(self.alloc, &id, held),
+            None => data_text(self.alloc, &id, &Holdings::none(self.alloc)),
+        }
     }
 
     // The line of how many jobs a node holds, and how many entries it has of each minion at or below it.
