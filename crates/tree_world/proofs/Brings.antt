@@ -1,6 +1,6 @@
 -- Which jobs are held after a message, and how an exchange stops.
 use Rattle.std.proofs.Common.{◌≡◌, ℕ, zero, suc, ◌+◌, ◌<◌, ◌≤◌, ◌∙◌, sym, ap, refl, subst, inl, inr, Bool, true, false, List, [], ◌∷◌, ◌++◌, length, arith, append-nil, set}
-use Rattle.std.specs.Prelude.{⊤, Option, None, Some, slice_get, nat_lt, ◌==◌, if◌then◌else◌}
+use Rattle.std.specs.Prelude.{⊤, Option, None, Some, Result, Ok, Err, IfErr, slice_get, nat_lt, ◌==◌, if◌then◌else◌}
 use Rattle.std.proofs.lemmas.List.{get_or-set_same, get_or-set_other, length_push}
 use Rattle.std.proofs.lemmas.Bool.{cases_eq, ltb-true}
 use Rattle.std.proofs.lemmas.Option.{same_Some, slice_get_past}
@@ -55,6 +55,10 @@ Carries P other = ⊤
 abbrev pub IsNoJob : Message → Type 0
 IsNoJob (m.Pub seq job) = ⊥
 IsNoJob other = ⊤
+
+-- the node past the end
+abbrev blank : NodeState
+blank = record { minion = false; records = []; held = no_holdings; known_jobs = []; known_ups = [] }
 
 module _ (P : Job → Type 0) where
   only_more : (js : List Job) (job : Job) → OnlyJobs P js → P job → OnlyJobs P (js ++ job ∷ [])
@@ -114,9 +118,6 @@ module _ (P : Job → Type 0) where
       unless (stray_of t me from message node) node (after_message t me from message node) h (after_one t me from message node c h)
 
   -- the network after a message
-  blank : NodeState
-  blank = record { minion = false; records = []; held = no_holdings; known_jobs = []; known_ups = [] }
-
   set_only : (nodes : List NodeState) (k : ℕ) (v : NodeState) → k < length nodes → ((i : ℕ) → OnlyJobs P (jobs (node_at nodes i).records)) → OnlyJobs P (jobs v.records)
       → (i : ℕ) → OnlyJobs P (jobs (node_at (set nodes k v) i).records)
   set_only nodes k v l h g i = elim (cases_eq i k) [
@@ -199,8 +200,8 @@ module _ (f : FleetConfig) (from to : ℕ) (message : Message) (w : Network) whe
       let p : Packet = packet from to message in
       let first_carries : (q : Packet) → first ≡ Some q → Carries P q.message = λ q e.
           subst (λ (x : Packet). Carries P x.message) (same_Some p q (sym (at_end w.packets p) ∙ e)) c in
-      let then : AllJobs P taken = delivered_only P f sent first first_carries h in
-      delivered_only P f taken (slice_get taken.packets (length w.packets + 1)) (λ q e. no_job_carries P q.message (second_quiet q e)) then
+      let once : AllJobs P taken = delivered_only P f sent first first_carries h in
+      delivered_only P f taken (slice_get taken.packets (length w.packets + 1)) (λ q e. no_job_carries P q.message (second_quiet q e)) once
 
 -- a job that a node holds, sent to another one, is brought to no node anew
 pub sent_brings : (f : FleetConfig) (w : Network) (p c n seq : ℕ) (job : Job) → slice_get (node_jobs w p) n ≡ Some job
@@ -235,12 +236,21 @@ sent_stops f w v from to i message (halt.TooBig leaf) at is h =
     let same : h.0 ≡ p = same_Some _ _ (sym e ∙ at_end w.packets p) in
     run_stops message (node_at v.nodes h.0.to) leaf (subst (λ (x : Packet). RunsBigPattern x.message (node_at v.nodes h.0.to) leaf) same h.2)
 
-pub reply_stops : (f : FleetConfig) (w v : Network) (from to i : ℕ) (message : Message) (stop : Halt) → i ≡ length w.packets + 1
-    → v ≡ after_delivery f (with_packets w (packet from to message ∷ [])) (slice_get (w.packets ++ packet from to message ∷ []) (length w.packets))
-    → IsHalt f (Deliver i) v stop → IsExchangeHalt message stop
-reply_stops f w v from to i message halt.NoMemory at is h = tt
-reply_stops f w v from to i message (halt.TooBig leaf) at is h =
-    absurd (quiet_runs h.0.message (node_at v.nodes h.0.to) leaf (second_quiet f from to message w h.0 (rw (is, at) at h.1)) h.2)
+pub reply_stops : {A : Type 0} (f g : FleetConfig) (nodes : List NodeState) (old now : List Packet) (v : Network) (from to i : ℕ) (message : Message) (r : Result A Halt)
+    → now ≡ old ++ packet from to message ∷ [] → i ≡ length old → v ≡ after_delivery f (record { nodes = nodes; packets = now }) (slice_get now i)
+    → IfErr r (IsHalt g (Deliver (i + 1)) v) → IfErr r (IsExchangeHalt message)
+reply_stops f g nodes old now v from to i message (Ok x) is at done h = tt
+reply_stops f g nodes old now v from to i message (Err halt.NoMemory) is at done h = tt
+reply_stops f g nodes old now v from to i message (Err (halt.TooBig leaf)) is at done h =
+    let at_length : v ≡ after_delivery f (record { nodes = nodes; packets = now }) (slice_get now (length old)) =
+        subst (λ (n : ℕ). v ≡ after_delivery f (record { nodes = nodes; packets = now }) (slice_get now n)) at done in
+    let of_sent : v ≡ taken f from to message (record { nodes = nodes; packets = old }) =
+        subst (λ (ps : List Packet). v ≡ after_delivery f (record { nodes = nodes; packets = ps }) (slice_get ps (length old))) is at_length in
+    let second : slice_get v.packets (length old + 1) ≡ Some h.0 = subst (λ (n : ℕ). slice_get v.packets (n + 1) ≡ Some h.0) at h.1 in
+    let reply : slice_get (taken f from to message (record { nodes = nodes; packets = old })).packets (length old + 1) ≡ Some h.0 =
+        subst (λ (x : Network). slice_get x.packets (length old + 1) ≡ Some h.0) of_sent second in
+    absurd (quiet_runs h.0.message (node_at v.nodes h.0.to) leaf
+    (second_quiet f from to message (record { nodes = nodes; packets = old }) h.0 reply) h.2)
 
 -- the exchange of a job that a node holds, or of an entry
 pub job_stops : (w : Network) (p n seq : ℕ) (job : Job) (stop : Halt) → slice_get (node_jobs w p) n ≡ Some job → IsExchangeHalt (m.Pub seq job) stop → IsSettleHalt w stop

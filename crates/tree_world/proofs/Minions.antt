@@ -1,6 +1,8 @@
 -- A minion is a node of its tree, and has no child.
 use Rattle.std.proofs.Common.{◌≡◌, ℕ, ◌<◌, ◌∙◌, sym, ap, refl, inl, inr, Bool, true, false, List, [], ◌∷◌, length, arith}
-use Rattle.std.specs.Prelude.{filter, ◌&&◌, nat_lt, ◌==◌}
+use Rattle.std.specs.Prelude.{filter, ◌&&◌, nat_lt, ◌==◌, Option, Some, None, if◌then◌else◌}
+use Rattle.std.proofs.lemmas.Option.{same_Some}
+use Rattle.exec_functions.specs.declared.holdings.Holdings.{Holdings}
 use Rattle.std.proofs.lemmas.List.{get_or_past}
 use Rattle.std.proofs.lemmas.Bool.{cases_lt, eqb-true, ltb-true}
 use Rattle.exec_functions.specs.Limits.{no_holdings}
@@ -11,7 +13,8 @@ use Rattle.fleet_config.specs.Tree.{Tree, IsTree, is_minion, is_parent, parent_o
 use Rattle.tree_world.specs.Network.{Network}
 use Rattle.tree_world.specs.Settle.{children, down_children}
 
-blank_member : Member
+-- the node past the end
+abbrev blank_member : Member
 blank_member = record { id = []; role = role.Top; parent = 0; port = 0; held = no_holdings }
 
 pub minion_low : (t : Tree) (m : ℕ) → is_minion t m ≡ true → m < length t
@@ -19,6 +22,11 @@ minion_low t m e = elim (cases_lt m (length t)) [
   | inl l ↦ l
   | inr l ↦ absurd (let g : is_minion t m ≡ false = ap (λ (s : Member). runs_jobs s.role) (get_or_past t m blank_member l) in let x = sym g ∙ e in cc)
 ]
+
+-- what a node is told to hold
+pub held_some : (minion : Bool) (x held : Holdings) → Some x ≡ (if minion then Some held else None) → x ≡ held
+held_some true x held e = same_Some x held e
+held_some false x held e = absurd cc
 
 parts : (a b c : Bool) → (a && b && c) ≡ true → (a ≡ true) × (b ≡ true) × (c ≡ true)
 parts true true true e = (refl, refl, refl)

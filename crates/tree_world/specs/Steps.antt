@@ -1,5 +1,5 @@
 -- What the parts of a turn do. No public contract cites these.
-use Rattle.std.specs.Prelude.{ℕ, ◌≡◌, ◌<◌, ◌++◌, All, List, length, map, take, slice_get, slice_set, Option, Some, nat_lt, if◌then◌else◌}
+use Rattle.std.specs.Prelude.{ℕ, ◌≡◌, ◌<◌, ◌++◌, All, List, [], ◌∷◌, length, map, take, slice_get, slice_set, Option, Some, nat_lt, if◌then◌else◌}
 use Rattle.std.specs.Option.{option_to_list}
 use Rattle.salt_value.specs.declared.outcome.Row.{Row}
 use Rattle.salt_wire.specs.declared.message.Message.{Message}
@@ -46,6 +46,10 @@ IsReplyTo f nodes p reply =
 -- a reply, if there is one, was added to the packets, as that to a packet between these places
 abbrev pub AddsReply : ℕ → ℕ → Option Message → List Packet → List Packet → Type 0
 AddsReply from to reply before after = (p : Packet) → p.from ≡ from → p.to ≡ to → after ≡ with_reply_if_any p reply before
+
+-- the message was added to the packets, on its way between these places
+abbrev pub AddsPacket : ℕ → ℕ → Message → List Packet → List Packet → Type 0
+AddsPacket from to message before after = after ≡ before ++ packet from to message ∷ []
 
 -- the messages were added to the packets, on their way between these places
 abbrev pub AddsPackets : ℕ → ℕ → List Message → List Packet → List Packet → Type 0

@@ -45,7 +45,8 @@ fn push_exit_row(out: &mut Vec<u8>, row: &Row) -> Result<(), AllocError>
     out.extend_from_slice(row.id.as_bytes())?;
     out.push(b' ')?;
     out.extend_from_slice(exit_word(row.outcome.retcode == 0))?;
-    out.push(b'\n')
+    out.push(b'\n')?;
+    Ok(())
 }
 
 // Whether a retcode is 0, as a word.
@@ -80,7 +81,8 @@ fn push_job(alloc: Global, out: &mut Vec<u8>, job: &Job) -> Result<(), AllocErro
     out.extend_from_slice(job.kind.name().as_bytes())?;
     out.push(b' ')?;
     push_json(alloc, out, &Value::Str(job.tgt.copy()?))?;
-    out.push(b'\n')
+    out.push(b'\n')?;
+    Ok(())
 }
 
 // A value as JSON.

@@ -7,8 +7,7 @@ ghost use Rattle.tree_world.specs.Settle.{known_jobs_at, known_ups_at, node_log}
 ghost use Rattle.tree_world.specs.Steps as steps;
 ghost use Rattle.tree_world.specs.Steps.{BringsNoJob, Exchanges, Settles};
 
-use crate::packet::Packet;
-use crate::world::{Halt, World};
+use crate::world::{Halt, World, push_packet};
 use salt_value::NodeId;
 use salt_wire::Message;
 use sqlite_items::at;
@@ -141,7 +140,7 @@ impl World {
     }
 
     // A message is sent and taken, and then its reply, if there is one.
-    #[tactic(auto, using(crate::proofs::Brings::sent_stops, crate::proofs::Brings::reply_stops))]
+    #[tactic(auto, using(crate::proofs::Brings::sent_stops))]
     fn exchange(&mut self, from: NodeId, to: NodeId, message: &Message) -> Result<(), Halt>
         requires fits { Within message.now }
         requires counted { IsCounted message.now }
@@ -150,8 +149,7 @@ impl World {
         ensures halt { IfErr result (IsExchangeHalt message.now) }
     {
         let i = self.packets.len() as u64;
-        self.packets
-            .push(Packet::new(self.alloc, from, to, message)?)?;
+        push_packet(self.alloc, &mut self.packets, from, to, message)?;
         self.deliver(i)?;
         self.deliver(i + 1)
     }

@@ -4,7 +4,7 @@ ghost use Rattle.node_core.specs.Node.{first_node, is_neighbour, IsCounted};
 ghost use Rattle.salt_wire.specs.Limits.{Within};
 ghost use Rattle.tree_world.specs.Halts as halts;
 ghost use Rattle.tree_world.specs.Halts.{IsReceiptHalt, NeverTooBig, CountsWriteFaults};
-ghost use Rattle.tree_world.specs.Steps.{TakesPacket, IsReplyTo, AddsReply, AddsPackets, first_pending};
+ghost use Rattle.tree_world.specs.Steps.{TakesPacket, IsReplyTo, AddsReply, AddsPacket, AddsPackets, first_pending};
 ghost use Rattle.salt_outside.specs.Streams.{contents_after, IsPart};
 
 use crate::packet::Packet;
@@ -277,7 +277,7 @@ impl World {
     }
 
     // The line of what a minion holds.
-    #[tactic(auto, using(crate::proofs::Minions::minion_low))]
+    #[tactic(auto, using(crate::proofs::Minions::minion_low, crate::proofs::Minions::held_some))]
     fn data(&self, node: NodeId) -> Result<Vec<u8>, AllocError>
         requires { is_minion self.now.fleet.tree node ≡ true }
         ensures { IfOk result (λ v. v.items ≡ turn_text (Turn.Data node) self.now) }
@@ -423,8 +423,24 @@ fn push_packets(
     ensures { OnOk result (AddsPackets from to messages.now packets.old.items packets.new.items) }
 {
     for message in messages {
-        packets.push(Packet::new(alloc, from, to, message)?)?;
+        push_packet(alloc, packets, from, to, message)?;
     }
+    Ok(())
+}
+
+/// A message as a packet, after those that are there.
+pub fn push_packet(
+    alloc: Global,
+    packets: &mut Vec<Packet>,
+    from: NodeId,
+    to: NodeId,
+    message: &Message,
+) -> Result<(), AllocError>
+    requires fits { Within message.now }
+    requires counted { IsCounted message.now }
+    ensures { OnOk result (AddsPacket from to message.now packets.old.items packets.new.items) }
+{
+    packets.push(Packet::new(alloc, from, to, message)?)?;
     Ok(())
 }
 

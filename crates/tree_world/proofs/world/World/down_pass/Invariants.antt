@@ -1,7 +1,7 @@
 use Rattle.std.proofs.Common.{◌≡◌}
 use Rattle.tree_world.specs.Settle.{down_pass}
 use Rattle.tree_world.specs.Steps.{BringsNoJob}
-use Rattle.tree_world.proofs.settle.World.down_pass.Given as goal
+use Rattle.tree_world.proofs.world.World.down_pass.Given as goal
 
 -- the jobs of the nodes so far went down, and no job came that no node held
 abbrev pub invariant-loop-p : goal.invariant-loop-p

@@ -1,7 +1,7 @@
 use Rattle.std.proofs.Common.{◌≡◌, ◌-◌}
 use Rattle.tree_world.specs.Settle.{down_steps, down_child}
 use Rattle.tree_world.specs.Steps.{BringsNoJob}
-use Rattle.tree_world.proofs.settle.World.down_child.Given as goal
+use Rattle.tree_world.proofs.world.World.down_child.Given as goal
 
 -- the steps that are left give what all of them give, and no job came that no node held
 abbrev pub invariant-loop : goal.invariant-loop

@@ -1,7 +1,7 @@
 use Rattle.std.proofs.Common.{◌∙◌}
 use Rattle.tree_world.proofs.Loops.{down_next}
 use Rattle.tree_world.proofs.Brings.{brings_on}
-use Rattle.tree_world.proofs.settle.World.down_children.Goals as goal
+use Rattle.tree_world.proofs.world.World.down_children.Goals as goal
 
 pub loop-c-preserved : goal.loop-c-preserved
 loop-c-preserved c = record {

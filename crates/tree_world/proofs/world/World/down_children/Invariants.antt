@@ -3,7 +3,7 @@ use Rattle.std.specs.Prelude.{filter}
 use Rattle.fleet_config.specs.Tree.{is_parent, up_to}
 use Rattle.tree_world.specs.Settle.{down_children}
 use Rattle.tree_world.specs.Steps.{BringsNoJob}
-use Rattle.tree_world.proofs.settle.World.down_children.Given as goal
+use Rattle.tree_world.proofs.world.World.down_children.Given as goal
 
 -- the children so far have the jobs, and no job came that no node held
 abbrev pub invariant-loop-c : goal.invariant-loop-c

@@ -1,6 +1,6 @@
 use Rattle.std.proofs.Common.{◌≡◌, drop}
 use Rattle.tree_world.specs.Settle.{up_minions}
-use Rattle.tree_world.proofs.settle.World.up_minions.Given as goal
+use Rattle.tree_world.proofs.world.World.up_minions.Given as goal
 
 -- the minions that are left give what all of them give
 abbrev pub invariant-loop-minion : goal.invariant-loop-minion

@@ -1,6 +1,6 @@
 use Rattle.std.proofs.Common.{◌≡◌, ◌-◌, length}
 use Rattle.tree_world.specs.Settle.{up_pass}
-use Rattle.tree_world.proofs.settle.World.up_pass.Given as goal
+use Rattle.tree_world.proofs.world.World.up_pass.Given as goal
 
 -- what is left of the pass gives what the whole one gives
 abbrev pub invariant-loop-i : goal.invariant-loop-i

@@ -1,6 +1,6 @@
 use Rattle.std.proofs.Common.{◌≡◌, ◌-◌}
 use Rattle.tree_world.specs.Settle.{up_steps, up_minion}
-use Rattle.tree_world.proofs.settle.World.up_minion.Given as goal
+use Rattle.tree_world.proofs.world.World.up_minion.Given as goal
 
 -- the steps that are left give what all of them give
 abbrev pub invariant-loop : goal.invariant-loop
