@@ -204,18 +204,17 @@ module _ (f : FleetConfig) (from to : ℕ) (message : Message) (w : Network) whe
       delivered_only P f taken (slice_get taken.packets (length w.packets + 1)) (λ q e. no_job_carries P q.message (second_quiet q e)) once
 
 -- a job that a node holds, sent to another one, is brought to no node anew
-pub sent_brings : (f : FleetConfig) (w : Network) (p c n seq : ℕ) (job : Job) → slice_get (node_jobs w p) n ≡ Some job
-    → BringsNoJob w (after_exchange f p c (m.Pub seq job) w)
-sent_brings f w p c n seq job e =
-    exchanged_only f p c (m.Pub seq job) w (λ (j : Job). (k i : ℕ) × (slice_get (node_jobs w k) i ≡ Some j)) (p, n, e) (λ i k j g. (i, k, g))
+pub sent_brings : (f : FleetConfig) (w v : Network) (p c n seq : ℕ) (job : Job) → slice_get (node_jobs w p) n ≡ Some job
+    → v ≡ after_exchange f p c (m.Pub seq job) w → BringsNoJob w v
+sent_brings f w v p c n seq job e is =
+    subst (BringsNoJob w) (sym is)
+    (record { each = exchanged_only f p c (m.Pub seq job) w (λ (j : Job). (k i : ℕ) × (slice_get (node_jobs w k) i ≡ Some j)) (p, n, e) (λ i k j g. (i, k, g)) })
 
 pub brings_none : (w : Network) → BringsNoJob w w
-brings_none w i seq job e = (i, seq, e)
+brings_none w = record { each = λ i seq job e. (i, seq, e) }
 
 pub brings_on : (a b c : Network) → BringsNoJob a b → BringsNoJob b c → BringsNoJob a c
-brings_on a b c first second i seq job e =
-    let there = second i seq job e in
-    first there.0 there.1 job there.2
+brings_on a b c first second = record { each = λ i seq job e. let there = second.each i seq job e in first.each there.0 there.1 job there.2 }
 
 -- ---- how an exchange stops
 
@@ -265,7 +264,7 @@ entry_stops id n entry (halt.TooBig leaf) h = h
 pub stops_before : (w v : Network) (stop : Halt) → BringsNoJob w v → IsSettleHalt v stop → IsSettleHalt w stop
 stops_before w v halt.NoMemory b h = tt
 stops_before w v (halt.TooBig leaf) b h =
-    let there = b h.0 h.1 h.2 h.3 in
+    let there = b.each h.0 h.1 h.2 h.3 in
     (there.0, there.1, h.2, there.2, h.4)
 
 pub memory_stops : (w : Network) (stop : Halt) → IsWantOfMemory stop → IsSettleHalt w stop

@@ -7,7 +7,7 @@ use Rattle.std.proofs.lemmas.Bool.Decides.{leb_tells}
 use Rattle.fleet_config.specs.Fleet.{FleetConfig}
 use Rattle.fleet_config.specs.Tree.{is_parent, minions, up_to}
 use Rattle.tree_world.specs.Network.{Network}
-use Rattle.tree_world.specs.Settle.{known_jobs_at, known_ups_at, down_step, down_steps, down_child, down_children, down_pass, up_step, up_steps, up_minion, up_minions, up_pass}
+use Rattle.tree_world.specs.Settle.{known_jobs_at, known_ups_at, down_step, down_steps, down_child, down_children, children, down_pass, up_step, up_steps, up_minion, up_minions, up_pass}
 
 -- one step of so many that are left, after which the known count rose, or stayed
 pub down_on : (f : FleetConfig) (p c n i : ℕ) (w v : Network) → i < n → v ≡ down_step f p c w → known_jobs_at w p c < known_jobs_at v p c
@@ -68,12 +68,19 @@ one_more f p c w = either (is_parent f.tree p c) refl where
   either false e = rw e refl
 
 -- the children below the next place
-pub down_next : (f g : FleetConfig) (p c : ℕ) (w v u : Network) → g ≡ f → v ≡ down_children f p (filter (λ d. is_parent f.tree p d) (up_to c)) w
-    → u ≡ (if is_parent g.tree p c then down_child g p c v else v) → u ≡ down_children f p (filter (λ d. is_parent f.tree p d) (up_to (c + 1))) w
-down_next f g p c w v u same e done =
+pub down_next : (f g : FleetConfig) (p c d : ℕ) (w v u : Network) → g ≡ f → d ≡ c → v ≡ down_children f p (filter (λ d. is_parent f.tree p d) (up_to c)) w
+    → u ≡ (if is_parent g.tree p d then down_child g p d v else v) → u ≡ down_children f p (filter (λ d. is_parent f.tree p d) (up_to (c + 1))) w
+down_next f g p c d w v u same at e done =
     let more : c + 1 ≡ suc c = omega arith in
     rw (more, filter-append (λ d. is_parent f.tree p d) (up_to c) (c ∷ []), down_join f p (filter (λ d. is_parent f.tree p d) (up_to c)) (filter (λ d. is_parent f.tree p d) (c ∷ [])) w, ← e)
-    (done ∙ rw same (sym (one_more f p c v)))
+    (done ∙ rw (same, at) (sym (one_more f p c v)))
+
+-- the nodes below the next place
+pub pass_next : (f g : FleetConfig) (p d : ℕ) (w v u : Network) → g ≡ f → d ≡ p → v ≡ down_pass f p w
+    → u ≡ down_children g d (children g.tree d) v → u ≡ down_pass f (p + 1) w
+pass_next f g p d w v u same at e done =
+    let more : p + 1 ≡ suc p = omega arith in
+    rw more (done ∙ rw (same, at, e) refl)
 
 -- the pass up: what is left of it after the last of so many nodes
 pub up_next : (f : FleetConfig) (n i : ℕ) (w : Network) → i < n

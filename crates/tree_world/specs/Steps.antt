@@ -60,10 +60,9 @@ abbrev pub first_pending : Tree → ℕ → ℕ → ℕ → List NodeState → L
 first_pending t from to max nodes = take max (pending t from to (node_at nodes from))
 
 -- each job that a node holds afterwards, some node held before
-abbrev pub BringsNoJob : Network → Network → Type 0
-BringsNoJob before after =
-    (i seq : ℕ) (job : Job) → slice_get (node_jobs after i) seq ≡ Some job
-    → (k n : ℕ) × (slice_get (node_jobs before k) n ≡ Some job)
+pub record BringsNoJob (before after : Network) : Type 0 where
+  pub each : (i seq : ℕ) (job : Job) → slice_get (node_jobs after i) seq ≡ Some job
+      → (k n : ℕ) × (slice_get (node_jobs before k) n ≡ Some job)
 
 -- a message was sent and taken, and then its reply, if there is one
 abbrev pub Exchanges : ℕ → ℕ → Message → System → Network → Type 0
