@@ -108,12 +108,7 @@ counts m2 jobs 2 m2:2\n\
 counts m3 jobs 2 m3:3\n";
 
 // The first settle carries the minions' starts, m2's first, and the second one nothing.
-static NOTHING: [Play; 4] = [
-    Play::Settle,
-    Play::Settle,
-    Play::Packet(3),
-    Play::Packet(4),
-];
+static NOTHING: [Play; 4] = [Play::Settle, Play::Settle, Play::Packet(3), Play::Packet(4)];
 
 static NOTHING_TEXT: &str = "settled\n\
 settled\n\

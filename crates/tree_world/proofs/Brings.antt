@@ -190,16 +190,16 @@ module _ (f : FleetConfig) (from to : ℕ) (message : Message) (w : Network) whe
   second_quiet q e =
       let p : Packet = packet from to message in
       let of_first : slice_get (after_delivery f sent (Some p)).packets (length w.packets + 1) ≡ Some q =
-          subst (λ (o : Option Packet). slice_get (after_delivery f sent o).packets (length w.packets + 1) ≡ Some q) (at_end w.packets p) e in
+      subst (λ (o : Option Packet). slice_get (after_delivery f sent o).packets (length w.packets + 1) ≡ Some q) (at_end w.packets p) e in
       let at_last : slice_get (after_delivery f sent (Some p)).packets (length sent.packets) ≡ Some q =
-          subst (λ (n : ℕ). slice_get (after_delivery f sent (Some p)).packets n ≡ Some q) (sym (length_push w.packets p)) of_first in
+      subst (λ (n : ℕ). slice_get (after_delivery f sent (Some p)).packets n ≡ Some q) (sym (length_push w.packets p)) of_first in
       quiet_place f sent p q (nat_lt to (length w.nodes)) at_last
 
   pub exchanged_only : (P : Job → Type 0) → Carries P message → AllJobs P w → AllJobs P (after_exchange f from to message w)
   exchanged_only P c h =
       let p : Packet = packet from to message in
       let first_carries : (q : Packet) → first ≡ Some q → Carries P q.message = λ q e.
-          subst (λ (x : Packet). Carries P x.message) (same_Some p q (sym (at_end w.packets p) ∙ e)) c in
+      subst (λ (x : Packet). Carries P x.message) (same_Some p q (sym (at_end w.packets p) ∙ e)) c in
       let once : AllJobs P taken = delivered_only P f sent first first_carries h in
       delivered_only P f taken (slice_get taken.packets (length w.packets + 1)) (λ q e. no_job_carries P q.message (second_quiet q e)) once
 
@@ -242,12 +242,12 @@ reply_stops f g nodes old now v from to i message (Ok x) is at done h = tt
 reply_stops f g nodes old now v from to i message (Err halt.NoMemory) is at done h = tt
 reply_stops f g nodes old now v from to i message (Err (halt.TooBig leaf)) is at done h =
     let at_length : v ≡ after_delivery f (record { nodes = nodes; packets = now }) (slice_get now (length old)) =
-        subst (λ (n : ℕ). v ≡ after_delivery f (record { nodes = nodes; packets = now }) (slice_get now n)) at done in
+    subst (λ (n : ℕ). v ≡ after_delivery f (record { nodes = nodes; packets = now }) (slice_get now n)) at done in
     let of_sent : v ≡ taken f from to message (record { nodes = nodes; packets = old }) =
-        subst (λ (ps : List Packet). v ≡ after_delivery f (record { nodes = nodes; packets = ps }) (slice_get ps (length old))) is at_length in
+    subst (λ (ps : List Packet). v ≡ after_delivery f (record { nodes = nodes; packets = ps }) (slice_get ps (length old))) is at_length in
     let second : slice_get v.packets (length old + 1) ≡ Some h.0 = subst (λ (n : ℕ). slice_get v.packets (n + 1) ≡ Some h.0) at h.1 in
     let reply : slice_get (taken f from to message (record { nodes = nodes; packets = old })).packets (length old + 1) ≡ Some h.0 =
-        subst (λ (x : Network). slice_get x.packets (length old + 1) ≡ Some h.0) of_sent second in
+    subst (λ (x : Network). slice_get x.packets (length old + 1) ≡ Some h.0) of_sent second in
     absurd (quiet_runs h.0.message (node_at v.nodes h.0.to) leaf
     (second_quiet f from to message (record { nodes = nodes; packets = old }) h.0 reply) h.2)
 

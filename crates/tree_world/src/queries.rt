@@ -171,7 +171,12 @@ fn push_counts(
 }
 
 // A minion's id, and how many entries of it a node has.
-fn push_count(alloc: Global, out: &mut Vec<u8>, id: &MinionId, node: &Node) -> Result<(), AllocError>
+fn push_count(
+    alloc: Global,
+    out: &mut Vec<u8>,
+    id: &MinionId,
+    node: &Node,
+) -> Result<(), AllocError>
     ensures { OnOk result (AddsText (text.entry_count_text node.now.records id.now)
         out.old.items out.new.items) }
 {

@@ -205,7 +205,9 @@ impl World {
         ensures fleet { self.new.fleet ≡ self.old.fleet }
         ensures halt { IfErr result IsWantOfMemory }
     {
-        let left = self.entries(c, minion).saturating_sub(self.known_ups(c, minion));
+        let left = self
+            .entries(c, minion)
+            .saturating_sub(self.known_ups(c, minion));
         for _ in 0..left {
             let known = self.known_ups(c, minion);
             self.up_step(c, minion)?;
