@@ -1,5 +1,5 @@
 -- Which jobs are held after a message, and how an exchange stops.
-use Rattle.std.proofs.Common.{◌≡◌, ℕ, zero, suc, ◌+◌, ◌<◌, ◌≤◌, ◌∙◌, sym, ap, refl, subst, inl, inr, Bool, true, false, List, [], ◌∷◌, ◌++◌, length, arith, append-nil, set}
+use Rattle.std.proofs.Common.{◌≡◌, ℕ, zero, suc, ◌+◌, ◌<◌, ◌∙◌, sym, refl, subst, inl, inr, Bool, true, false, List, [], ◌∷◌, ◌++◌, length, arith, append-nil, set}
 use Rattle.std.specs.Prelude.{⊤, Option, None, Some, Result, Ok, Err, IfErr, slice_get, nat_lt, ◌==◌, if◌then◌else◌}
 use Rattle.std.proofs.lemmas.List.{get_or-set_same, get_or-set_other, length_push}
 use Rattle.std.proofs.lemmas.Bool.{cases_eq, ltb-true}
@@ -18,7 +18,7 @@ use Rattle.fleet_config.specs.Fleet.{FleetConfig}
 use Rattle.fleet_config.specs.Tree.{Tree, id_of}
 use Rattle.node_core.specs.declared.faults.Stray.{Stray}
 use Rattle.node_core.specs.Records.{jobs, jobs_in, jobs_held, log}
-use Rattle.node_core.specs.Node.{NodeState, Answer, MessageResult, RunsBigPattern, job_deed, taken_in, with_record, with_next_record, after_message, stray_of, unless_stray, message_result}
+use Rattle.node_core.specs.Node.{NodeState, Answer, MessageResult, RunsBigPattern, job_deed, with_next_record, after_message, stray_of, unless_stray, message_result}
 use Rattle.node_core.specs.Node.Answer.{IsStray, Silent, Reply}
 use Rattle.fleet_turns.specs.declared.turn.Turn.TheVariants.{Deliver, Settle}
 use Rattle.tree_world.specs.declared.world.Halt.{Halt}

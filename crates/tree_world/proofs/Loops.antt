@@ -1,5 +1,5 @@
 -- The loops of a settle.
-use Rattle.std.proofs.Common.{◌≡◌, ℕ, zero, suc, ◌+◌, ◌-◌, ◌<◌, ◌≤◌, ◌∙◌, sym, ap, refl, inl, inr, Bool, true, false, List, [], ◌∷◌, ◌++◌, length, arith, append-nil, add-one}
+use Rattle.std.proofs.Common.{◌≡◌, ℕ, zero, suc, ◌+◌, ◌-◌, ◌<◌, ◌≤◌, ◌∙◌, sym, refl, inl, inr, Bool, true, false, List, [], ◌∷◌, ◌++◌, arith}
 use Rattle.std.specs.Prelude.{filter, nat_lt, if◌then◌else◌}
 use Rattle.std.proofs.lemmas.List.Elements.{filter-append}
 use Rattle.std.proofs.lemmas.Bool.{lt-ltb}
@@ -7,7 +7,7 @@ use Rattle.std.proofs.lemmas.Bool.Decides.{leb_tells}
 use Rattle.fleet_config.specs.Fleet.{FleetConfig}
 use Rattle.fleet_config.specs.Tree.{is_parent, minions, up_to}
 use Rattle.tree_world.specs.Network.{Network}
-use Rattle.tree_world.specs.Settle.{known_jobs_at, known_ups_at, down_step, down_steps, down_child, down_children, children, down_pass, up_step, up_steps, up_minion, up_minions, up_pass}
+use Rattle.tree_world.specs.Settle.{known_jobs_at, known_ups_at, down_step, down_steps, down_child, down_children, children, down_pass, up_step, up_steps, up_minions, up_pass}
 
 -- one step of so many that are left, after which the known count rose, or stayed
 pub down_on : (f : FleetConfig) (p c n i : ℕ) (w v : Network) → i < n → v ≡ down_step f p c w → known_jobs_at w p c < known_jobs_at v p c

@@ -1,6 +1,6 @@
 -- A minion is a node of its tree, and has no child.
-use Rattle.std.proofs.Common.{◌≡◌, ℕ, ◌<◌, ◌∙◌, sym, ap, refl, inl, inr, Bool, true, false, List, [], ◌∷◌, length, arith}
-use Rattle.std.specs.Prelude.{filter, ◌&&◌, nat_lt, ◌==◌, Option, Some, None, if◌then◌else◌}
+use Rattle.std.proofs.Common.{◌≡◌, ℕ, ◌<◌, ◌∙◌, sym, ap, refl, inl, inr, Bool, true, false, List, [], ◌∷◌, length}
+use Rattle.std.specs.Prelude.{filter, ◌&&◌, nat_lt, ◌==◌, Some, None, if◌then◌else◌}
 use Rattle.std.proofs.lemmas.Option.{same_Some}
 use Rattle.exec_functions.specs.declared.holdings.Holdings.{Holdings}
 use Rattle.std.proofs.lemmas.List.{get_or_past}

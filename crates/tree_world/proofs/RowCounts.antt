@@ -1,7 +1,7 @@
 -- How many rows the reports of some jobs have.
 use Rattle.std.proofs.Common.{◌≡◌, ℕ, zero, suc, ◌+◌, ◌≤◌, ◌∙◌, ap, refl, true, ◌&&◌, List, [], ◌∷◌, length, arith}
-use Rattle.std.specs.Prelude.{filter, filter_map, Option, None, Some}
-use Rattle.std.specs.List.{sum_by, cons_option}
+use Rattle.std.specs.Prelude.{filter_map, Option, None, Some}
+use Rattle.std.specs.List.{cons_option}
 use Rattle.std.specs.Option.{option_to_list}
 use Rattle.std.proofs.lemmas.List.{length_push}
 use Rattle.std.proofs.lemmas.List.Sums.{sum_by-append}
