@@ -111,5 +111,5 @@ abbrev pub PassesUp : System → Network → Type 0
 PassesUp before after = after ≡ up_pass before.fleet (length before.fleet.tree) before.network
 
 -- all that was pending went down through the tree and then up
-abbrev pub Settles : System → Network → Type 0
-Settles before after = after ≡ after_settle before.fleet before.network
+abbrev pub HandsOver : System → Network → Type 0
+HandsOver before after = after ≡ after_settle before.fleet before.network

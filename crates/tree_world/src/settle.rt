@@ -5,7 +5,7 @@ ghost use Rattle.salt_wire.specs.Limits.{Within};
 ghost use Rattle.tree_world.specs.Halts.{IsSettleHalt, IsExchangeHalt, IsWantOfMemory};
 ghost use Rattle.tree_world.specs.Settle.{known_jobs_at, known_ups_at, node_log};
 ghost use Rattle.tree_world.specs.Steps as steps;
-ghost use Rattle.tree_world.specs.Steps.{BringsNoJob, Exchanges, Settles};
+ghost use Rattle.tree_world.specs.Steps.{BringsNoJob, Exchanges, HandsOver};
 
 use crate::world::{Halt, World, push_packet};
 use salt_value::NodeId;
@@ -16,7 +16,7 @@ impl World {
     /// Each job goes down the tree and then each entry up, one message after the other, each of them taken and answered.
     #[tactic(auto, using(crate::proofs::Brings::memory_stops, crate::proofs::Brings::stops_before))]
     pub fn settle(&mut self) -> Result<(), Halt>
-        ensures state { OnOk result (Settles self.old self.new.network) }
+        ensures state { OnOk result (HandsOver self.old self.new.network) }
         ensures fleet { self.new.fleet ≡ self.old.fleet }
         ensures halt { IfErr result (IsSettleHalt self.old.network) }
     {
