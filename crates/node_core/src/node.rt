@@ -6,7 +6,7 @@ ghost use Rattle.node_core.specs.Index.{IsStoreOf};
 ghost use Rattle.node_core.specs.Publications.{order, PublishesOrder, DeniesOrder};
 ghost use Rattle.node_core.specs.Steps.{IsRunBy, IsRunAnswer, booted_minion, first_stray_at, up_stray_at, Accepts, AcceptsJob, AcceptsEntry, placed_after, after_job, after_run, IsNextJobRecord, IsJobToRecord, IsEntryToRecord, AddsUps};
 ghost use Rattle.minion_core.specs.Faults.{IsRunFault};
-ghost use Rattle.exec_functions.specs.Limits.{AreWithin};
+ghost use Rattle.exec_functions.specs.Limits.{AreWithin, no_holdings};
 ghost use Rattle.salt_wire.specs.Limits.{JobFits};
 ghost use Rattle.node_core.specs.declared.faults.PendFault.TheVariants.{NotNeighbour};
 
@@ -247,6 +247,7 @@ impl<'f> Node<'f> {
     /// What a minion holds. A master holds nothing.
     pub fn holdings(&self) -> Option<&Holdings>
         ensures value { option_copied result ≡ (if self.now.state.minion then Some self.now.state.held else None) }
+        ensures none { result ≡ None → self.now.state.held ≡ no_holdings }
     {
         self.core.holdings()
     }

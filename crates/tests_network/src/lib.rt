@@ -10,6 +10,10 @@ mod plays;
 #[cfg(test)]
 mod scripts;
 #[cfg(test)]
+mod settles;
+#[cfg(test)]
 mod syndics;
+#[cfg(test)]
+mod turns;
 #[cfg(test)]
 mod worlds;

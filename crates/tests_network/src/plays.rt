@@ -25,7 +25,13 @@ pub enum Play {
     Deliver(u64),
     /// The packets from this number on, up to before that one.
     DeliverEach(u64, u64),
+    Settle,
     Report(&'static str),
+    Exit(&'static str),
+    Jobs,
+    Summary,
+    Data(u32),
+    Counts(u32),
     Packet(u64),
 }
 
@@ -108,36 +114,6 @@ pub fn repeated(rt: &impl Abort, alloc: Global, part: &str, count: u32) -> Strin
     text
 }
 
-// Nodes that are no neighbours send nothing.
-fn send(
-    world: &mut World,
-    sink: &mut MemSink,
-    from: NodeId,
-    to: NodeId,
-    count: u64,
-) -> Result<(), StepFault> {
-    if from.place() >= world.fleet().count() {
-        return Ok(());
-    }
-    if to.place() >= world.fleet().count() {
-        return Ok(());
-    }
-    if world.fleet().is_parent(from, to) {
-        return world.step(&Turn::Send { from, to, count }, sink);
-    }
-    if world.fleet().is_parent(to, from) {
-        return world.step(&Turn::Send { from, to, count }, sink);
-    }
-    Ok(())
-}
-
-fn report(world: &mut World, sink: &mut MemSink, jid: &str) -> Result<(), StepFault> {
-    match Jid::read(jid.as_bytes()) {
-        Some(jid) => world.step(&Turn::Report { jid }, sink),
-        None => Ok(()),
-    }
-}
-
 // Each argument of its JSON.
 fn arguments(rt: &impl Abort, alloc: Global, texts: &[&str]) -> Items {
     let mut items = Items::new(alloc);
@@ -148,26 +124,67 @@ fn arguments(rt: &impl Abort, alloc: Global, texts: &[&str]) -> Items {
     items
 }
 
-fn publish(
+// A function with its arguments, each as JSON, for a target by its text of this kind.
+fn publication(
     rt: &impl Abort,
     alloc: Global,
-    world: &mut World,
-    sink: &mut MemSink,
     moment: u64,
     (kind, tgt): (Kind, &str),
     (fun, args): (&str, &[&str]),
-) -> Result<(), StepFault> {
-    let tgt = Text::new(String::from_str(alloc, tgt).expect(rt, FAILED));
-    let fun = Word::read(alloc, fun).expect(rt, FAILED);
-    let args = arguments(rt, alloc, args);
-    let turn = Turn::Publish {
+) -> Turn {
+    Turn::Publish {
         moment,
         kind,
-        tgt,
-        fun,
-        args,
-    };
-    world.step(&turn, sink)
+        tgt: Text::new(String::from_str(alloc, tgt).expect(rt, FAILED)),
+        fun: Word::read(alloc, fun).expect(rt, FAILED),
+        args: arguments(rt, alloc, args),
+    }
+}
+
+fn jid(rt: &impl Abort, text: &str) -> Jid {
+    Jid::read(text.as_bytes()).expect(rt, FAILED)
+}
+
+// The first turn of a play that asks for something, and `Jobs` of another one.
+fn question(rt: &impl Abort, play: Play) -> Turn {
+    match play {
+        Play::Report(text) => Turn::Report { jid: jid(rt, text) },
+        Play::Exit(text) => Turn::Exit { jid: jid(rt, text) },
+        Play::Summary => Turn::Summary,
+        Play::Data(node) => Turn::Data {
+            node: NodeId::new(node),
+        },
+        Play::Counts(node) => Turn::Counts {
+            node: NodeId::new(node),
+        },
+        Play::Packet(packet) => Turn::Packet { packet },
+        _ => Turn::Jobs,
+    }
+}
+
+/// The turn of a play, the first one where it has more.
+pub fn turn_of(rt: &impl Abort, alloc: Global, play: Play) -> Turn {
+    match play {
+        Play::Publish(moment, kind, tgt) => {
+            publication(rt, alloc, moment, (kind, tgt), ("test.ping", &[]))
+        }
+        Play::Repeat(moment, kind, part, count) => {
+            let tgt = repeated(rt, alloc, part, count);
+            publication(rt, alloc, moment, (kind, tgt.as_str()), ("test.ping", &[]))
+        }
+        Play::Run(moment, fun, args) => {
+            publication(rt, alloc, moment, (Kind::Glob, "*"), (fun, args))
+        }
+        Play::Send(from, to, count) => Turn::Send {
+            from: NodeId::new(from),
+            to: NodeId::new(to),
+            count,
+        },
+        Play::Deliver(packet) => Turn::Deliver { packet },
+        Play::DeliverEach(first, _) => Turn::Deliver { packet: first },
+        Play::Settle => Turn::Settle,
+        other => question(rt, other),
+    }
 }
 
 // The packets from the first number up to before the last, up to the first fault.
@@ -183,6 +200,15 @@ fn deliver_each(
     Ok(())
 }
 
+// A turn that the fleet doesn't have does nothing.
+fn step(world: &mut World, sink: &mut MemSink, turn: &Turn) -> Result<(), StepFault> {
+    if turn.is_of(world.fleet()) {
+        world.step(turn, sink)
+    } else {
+        Ok(())
+    }
+}
+
 fn perform(
     rt: &impl Abort,
     alloc: Global,
@@ -191,47 +217,8 @@ fn perform(
     play: Play,
 ) -> Result<(), StepFault> {
     match play {
-        Play::Publish(moment, kind, tgt) => {
-            publish(
-                rt,
-                alloc,
-                world,
-                sink,
-                moment,
-                (kind, tgt),
-                ("test.ping", &[]),
-            )
-        }
-        Play::Repeat(moment, kind, part, count) => {
-            let tgt = repeated(rt, alloc, part, count);
-            publish(
-                rt,
-                alloc,
-                world,
-                sink,
-                moment,
-                (kind, tgt.as_str()),
-                ("test.ping", &[]),
-            )
-        }
-        Play::Run(moment, fun, args) => {
-            publish(
-                rt,
-                alloc,
-                world,
-                sink,
-                moment,
-                (Kind::Glob, "*"),
-                (fun, args),
-            )
-        }
-        Play::Send(from, to, count) => {
-            send(world, sink, NodeId::new(from), NodeId::new(to), count)
-        }
-        Play::Deliver(packet) => world.step(&Turn::Deliver { packet }, sink),
         Play::DeliverEach(first, last) => deliver_each(world, sink, first, last),
-        Play::Report(jid) => report(world, sink, jid),
-        Play::Packet(packet) => world.step(&Turn::Packet { packet }, sink),
+        other => step(world, sink, &turn_of(rt, alloc, other)),
     }
 }
 

@@ -1,4 +1,8 @@
 pub mod Orders
 mod Bodies
 mod Delivers
-pub mod Placed
+mod Placed
+mod Loops
+mod Brings
+mod RowCounts
+mod Minions

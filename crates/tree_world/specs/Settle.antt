@@ -1,5 +1,5 @@
 -- Settle: every job goes down the tree and then every entry up, one message after the other, each of them taken and answered.
-use Rattle.std.specs.Prelude.{ℕ, zero, suc, ◌+◌, ◌-◌, Bool, List, [], ◌∷◌, length, filter, slice_get, Option, None, Some, nat_lt, if◌then◌else◌}
+use Rattle.std.specs.Prelude.{ℕ, zero, suc, ◌+◌, ◌-◌, List, [], ◌∷◌, length, filter, slice_get, Option, None, Some, nat_lt, if◌then◌else◌}
 use Rattle.fleet_config.specs.Fleet.{FleetConfig}
 use Rattle.fleet_config.specs.Tree.{Tree, id_of, parent_of, is_parent, minions, up_to}
 use Rattle.salt_wire.specs.declared.message.Job.{Job}

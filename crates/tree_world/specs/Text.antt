@@ -129,7 +129,7 @@ summary_text t records =
 abbrev pub data_text : List ℕ → Holdings → List ℕ
 data_text id held =
     line (codes "data " ++ id ++ codes " " ++ json_text (v.Map held.grains) ++ codes " " ++ json_text (v.Map held.store)
-      ++ codes " " ++ json_text (v.Map held.mine))
+    ++ codes " " ++ json_text (v.Map held.mine))
 
 -- the id of a minion, and how many entries of it a node has by its records
 abbrev pub entry_count_text : List Deed → List ℕ → List ℕ

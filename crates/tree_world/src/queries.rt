@@ -1,8 +1,8 @@
 //! The lines of what is asked of nodes.
-ghost use Rattle.std.specs.Prelude.{codes, ◌≡◌, ◌++◌, ◌<◌, ◌==◌, decimal, length, flat_map, true, All, IfOk, OnOk};
+ghost use Rattle.std.specs.Prelude.{codes, ◌≡◌, ◌++◌, ◌<◌, decimal, length, flat_map, IfOk, OnOk};
 ghost use Rattle.value_json.specs.Texts.{json_text};
 ghost use Rattle.salt_value.specs.declared.value.Value.TheVariants as v;
-ghost use Rattle.fleet_config.specs.Tree.{minions};
+ghost use Rattle.tree_world.specs.Steps.{AddsText, AreNodes};
 ghost use Rattle.tree_world.specs.Text as text;
 
 use exec_functions::Holdings;
@@ -45,7 +45,8 @@ fn push_exit_row(out: &mut Vec<u8>, row: &Row) -> Result<(), AllocError>
     out.extend_from_slice(row.id.as_bytes())?;
     out.push(b' ')?;
     out.extend_from_slice(exit_word(row.outcome.retcode == 0))?;
-    out.push(b'\n')
+    out.push(b'\n')?;
+    Ok(())
 }
 
 // Whether a retcode is 0, as a word.
@@ -80,7 +81,8 @@ fn push_job(alloc: Global, out: &mut Vec<u8>, job: &Job) -> Result<(), AllocErro
     out.extend_from_slice(job.kind.name().as_bytes())?;
     out.push(b' ')?;
     push_json(alloc, out, &Value::Str(job.tgt.copy()?))?;
-    out.push(b'\n')
+    out.push(b'\n')?;
+    Ok(())
 }
 
 // A value as JSON.
@@ -121,7 +123,8 @@ pub fn data_text(alloc: Global, id: &MinionId, held: &Holdings) -> Result<Vec<u8
 
 // A space, and fields as JSON.
 fn push_fields(alloc: Global, out: &mut Vec<u8>, fields: &Fields) -> Result<(), AllocError>
-    ensures { OnOk result (out.new.items ≡ out.old.items ++ (codes " " ++ json_text (v.Map fields.now))) }
+    ensures { OnOk result (AddsText (codes " " ++ json_text (v.Map fields.now))
+        out.old.items out.new.items) }
 {
     out.push(b' ')?;
     push_json(alloc, out, &Value::Map(fields.copy(alloc)?))
@@ -156,9 +159,10 @@ fn push_counts(
     node: &Node,
     minions: &[NodeId],
 ) -> Result<(), AllocError>
-    requires { All (λ m. m < length fleet.now.tree) minions.now }
-    ensures { OnOk result (out.new.items ≡ out.old.items
-        ++ flat_map (text.entries_text fleet.now.tree node.now.records) minions.now) }
+    requires { AreNodes fleet.now.tree minions.now }
+    ensures { OnOk result (AddsText
+        (flat_map (text.entries_text fleet.now.tree node.now.records) minions.now)
+        out.old.items out.new.items) }
 {
     for minion in minions {
         push_count(alloc, out, &fleet.id(*minion), node)?;
@@ -167,8 +171,14 @@ fn push_counts(
 }
 
 // A minion's id, and how many entries of it a node has.
-fn push_count(alloc: Global, out: &mut Vec<u8>, id: &MinionId, node: &Node) -> Result<(), AllocError>
-    ensures { OnOk result (out.new.items ≡ out.old.items ++ text.entry_count_text node.now.records id.now) }
+fn push_count(
+    alloc: Global,
+    out: &mut Vec<u8>,
+    id: &MinionId,
+    node: &Node,
+) -> Result<(), AllocError>
+    ensures { OnOk result (AddsText (text.entry_count_text node.now.records id.now)
+        out.old.items out.new.items) }
 {
     out.push(b' ')?;
     out.extend_from_slice(id.as_bytes())?;

@@ -4,7 +4,7 @@ ghost use Rattle.node_core.specs.Node.{first_node, is_neighbour, IsCounted};
 ghost use Rattle.salt_wire.specs.Limits.{Within};
 ghost use Rattle.tree_world.specs.Halts as halts;
 ghost use Rattle.tree_world.specs.Halts.{IsReceiptHalt, NeverTooBig, CountsWriteFaults};
-ghost use Rattle.tree_world.specs.Steps.{TakesPacket, IsReplyTo, AddsReply, AddsPackets, first_pending};
+ghost use Rattle.tree_world.specs.Steps.{TakesPacket, IsReplyTo, AddsReply, AddsPacket, AddsPackets, first_pending};
 ghost use Rattle.salt_outside.specs.Streams.{contents_after, IsPart};
 
 use crate::packet::Packet;
@@ -13,6 +13,7 @@ use crate::report::{row_count, rows_of, sort_by_id};
 use crate::text::{
     missing_text, number_of, packet_text, published_text, refused_text, rows_text, unknown_text,
 };
+use exec_functions::Holdings;
 use fleet_config::Fleet;
 use fleet_turns::Turn;
 use node_core::{Node, PendFault, PublishFault, TakeFault};
@@ -159,6 +160,7 @@ impl World {
     }
 
     // The network goes on by a turn, and answers the text that the turn prints.
+    #[tactic(auto, using(crate::proofs::Brings::settle_stops))]
     fn turn(&mut self, turn: &Turn) -> Result<Vec<u8>, Halt>
         requires { IsTurn self.old.fleet turn.now }
         ensures state { OnOk result (Follows turn.now self.old self.new.network) }
@@ -275,14 +277,16 @@ impl World {
     }
 
     // The line of what a minion holds.
+    #[tactic(auto, using(crate::proofs::Minions::minion_low, crate::proofs::Minions::held_some))]
     fn data(&self, node: NodeId) -> Result<Vec<u8>, AllocError>
         requires { is_minion self.now.fleet.tree node ≡ true }
         ensures { IfOk result (λ v. v.items ≡ turn_text (Turn.Data node) self.now) }
     {
-        let Some(held) = self.nodes[node.index()].holdings() else {
-            unreachable!();
-        };
-        data_text(self.alloc, &self.fleet.id(node), held)
+        let id = self.fleet.id(node);
+        match self.nodes[node.index()].holdings() {
+            Some(held) => data_text(self.alloc, &id, held),
+            None => data_text(self.alloc, &id, &Holdings::none(self.alloc)),
+        }
     }
 
     // The line of how many jobs a node holds, and how many entries it has of each minion at or below it.
@@ -419,8 +423,24 @@ fn push_packets(
     ensures { OnOk result (AddsPackets from to messages.now packets.old.items packets.new.items) }
 {
     for message in messages {
-        packets.push(Packet::new(alloc, from, to, message)?)?;
+        push_packet(alloc, packets, from, to, message)?;
     }
+    Ok(())
+}
+
+/// A message as a packet, after those that are there.
+pub fn push_packet(
+    alloc: Global,
+    packets: &mut Vec<Packet>,
+    from: NodeId,
+    to: NodeId,
+    message: &Message,
+) -> Result<(), AllocError>
+    requires fits { Within message.now }
+    requires counted { IsCounted message.now }
+    ensures { OnOk result (AddsPacket from to message.now packets.old.items packets.new.items) }
+{
+    packets.push(Packet::new(alloc, from, to, message)?)?;
     Ok(())
 }
 
