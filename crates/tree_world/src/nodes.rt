@@ -3,12 +3,10 @@ ghost use Rattle.std.specs.Prelude.{◌≡◌, ◌<◌, true, length, All, IfOk,
 ghost use Rattle.node_core.specs.Node.{is_neighbour, IsCounted};
 ghost use Rattle.node_core.specs.Publications.{order};
 ghost use Rattle.salt_wire.specs.Limits.{Within};
-ghost use Rattle.tree_world.specs.Halts.{IsReceiptHalt};
-ghost use Rattle.tree_world.specs.Network.{node_at, packet};
-ghost use Rattle.tree_world.specs.Nodes.{starting_nodes, PublishesAtTop, DeniesAtTop};
-ghost use Rattle.tree_world.specs.Steps.{TakesPacket, IsReplyTo, first_pending};
+ghost use Rattle.tree_world.specs.Network.{node_at};
+ghost use Rattle.tree_world.specs.Nodes.{starting_nodes, TakesAt, StaysAt, DeniesAt, PublishesAtTop, DeniesAtTop};
+ghost use Rattle.tree_world.specs.Steps.{first_pending};
 
-use crate::world::Halt;
 use fleet_config::Fleet;
 use node_core::{Node, PendFault, PublishFault, TakeFault};
 use salt_value::{Jid, NodeId, Text, Value, Word};
@@ -69,31 +67,25 @@ impl<'f> Nodes<'f> {
         &self.nodes[place.index()]
     }
 
-    /// The node at a place takes a message from another one, and may reply. Where the message is stray nothing happens.
+    /// The node at a place takes a message from another one, and may reply. After an error every node is as before.
     pub fn take(
         &mut self,
         from: NodeId,
         to: NodeId,
         message: &Message,
-    ) -> Result<Option<Message>, Halt>
+    ) -> Result<Option<Message>, TakeFault>
         requires within { to < length self.old.states }
         requires counted { IsCounted message.now }
         requires fits { Within message.now }
         ensures fleet { self.new.fleet ≡ self.old.fleet }
-        ensures states { OnOk result (TakesPacket self.old.fleet (packet from to message.now)
+        ensures ok { IfOk result (TakesAt self.old.fleet to from message.now
             self.old.states self.new.states) }
-        ensures reply { IfOk result (IsReplyTo self.old.fleet self.old.states
-            (packet from to message.now)) }
         ensures counted { IfOk result (λ reply. IfSome reply IsCounted) }
         ensures fits { IfOk result (λ reply. IfSome reply Within) }
-        ensures halt { IfErr result (IsReceiptHalt self.old.states (packet from to message.now)) }
+        ensures err { OnErr result (StaysAt to self.old.states self.new.states) }
+        ensures fault { IfErr result (DeniesAt to from message.now self.old) }
     {
-        match self.nodes[to.index()].take(from, message) {
-            Ok(reply) => Ok(reply),
-            Err(TakeFault::Stray { .. }) => Ok(None),
-            Err(TakeFault::TooBig { leaf }) => Err(Halt::TooBig { leaf }),
-            Err(TakeFault::NoMemory) => Err(Halt::NoMemory),
-        }
+        self.nodes[to.index()].take(from, message)
     }
 
     /// Publishes an order at the top. After an error all is as before.

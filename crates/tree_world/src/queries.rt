@@ -138,7 +138,7 @@ pub fn counts_text(
     node: &Node,
 ) -> Result<Vec<u8>, AllocError>
     requires { place < length fleet.now.tree }
-    ensures { IfOk result (λ v. v.items ≡ text.counts_text fleet.now.tree place node.now.records) }
+    ensures { IfOk result (λ v. v.items ≡ text.counts_text fleet.now.tree place node.now.state.records) }
 {
     let mut line = Vec::new(alloc);
     line.extend_from_slice(b"counts ")?;
@@ -161,7 +161,7 @@ fn push_counts(
 ) -> Result<(), AllocError>
     requires { AreNodes fleet.now.tree minions.now }
     ensures { OnOk result (AddsText
-        (flat_map (text.entries_text fleet.now.tree node.now.records) minions.now)
+        (flat_map (text.entries_text fleet.now.tree node.now.state.records) minions.now)
         out.old.items out.new.items) }
 {
     for minion in minions {
@@ -177,7 +177,7 @@ fn push_count(
     id: &MinionId,
     node: &Node,
 ) -> Result<(), AllocError>
-    ensures { OnOk result (AddsText (text.entry_count_text node.now.records id.now)
+    ensures { OnOk result (AddsText (text.entry_count_text node.now.state.records id.now)
         out.old.items out.new.items) }
 {
     out.push(b' ')?;

@@ -12,7 +12,7 @@ use salt_value::NodeId;
 use salt_wire::Message;
 use sqlite_items::at;
 
-impl World {
+impl<'f> World<'f> {
     /// Each job goes down the tree and then each entry up, one message after the other, each of them taken and answered.
     #[tactic(auto, using(crate::proofs::Brings::memory_stops, crate::proofs::Brings::stops_before))]
     pub fn settle(&mut self) -> Result<(), Halt>
@@ -32,7 +32,7 @@ impl World {
         ensures jobs { OnOk result (BringsNoJob self.old.network self.new.network) }
         ensures halt { IfErr result (IsSettleHalt self.old.network) }
     {
-        for p in 0..self.fleet.count() {
+        for p in 0..self.fleet().count() {
             self.down_if_master(NodeId::new(p))?;
         }
         Ok(())
@@ -47,8 +47,8 @@ impl World {
         ensures jobs { OnOk result (BringsNoJob self.old.network self.new.network) }
         ensures halt { IfErr result (IsSettleHalt self.old.network) }
     {
-        let _nodes = self.fleet.count();
-        if self.fleet.is_minion(p) {
+        let _nodes = self.fleet().count();
+        if self.fleet().is_minion(p) {
             Ok(())
         } else {
             self.down_children(p)
@@ -64,7 +64,7 @@ impl World {
         ensures jobs { OnOk result (BringsNoJob self.old.network self.new.network) }
         ensures halt { IfErr result (IsSettleHalt self.old.network) }
     {
-        for c in 0..self.fleet.count() {
+        for c in 0..self.fleet().count() {
             self.down_if_child(p, NodeId::new(c))?;
         }
         Ok(())
@@ -80,7 +80,7 @@ impl World {
         ensures jobs { OnOk result (BringsNoJob self.old.network self.new.network) }
         ensures halt { IfErr result (IsSettleHalt self.old.network) }
     {
-        if self.fleet.is_parent(p, c) {
+        if self.fleet().is_parent(p, c) {
             self.down_child(p, c)
         } else {
             Ok(())
@@ -97,7 +97,9 @@ impl World {
         ensures jobs { OnOk result (BringsNoJob self.old.network self.new.network) }
         ensures halt { IfErr result (IsSettleHalt self.old.network) }
     {
-        let left = self.nodes[p.index()]
+        let left = self
+            .nodes
+            .get(p)
             .jobs_held()
             .saturating_sub(self.known_jobs(p, c));
         for _ in 0..left {
@@ -115,7 +117,7 @@ impl World {
         requires { p < length self.now.fleet.tree }
         ensures { result ≡ known_jobs_at self.now.network p c }
     {
-        self.nodes[p.index()].known_jobs(c)
+        self.nodes.get(p).known_jobs(c)
     }
 
     // The first job that a child is not known to hold goes to it, if there is one.
@@ -129,7 +131,7 @@ impl World {
         ensures halt { IfErr result (IsSettleHalt self.old.network) }
     {
         let seq = self.known_jobs(p, c);
-        let Some(job) = at(self.nodes[p.index()].jobs(), seq as usize) else {
+        let Some(job) = at(self.nodes.get(p).jobs(), seq as usize) else {
             return Ok(());
         };
         let message = Message::Pub {
@@ -161,7 +163,7 @@ impl World {
         ensures fleet { self.new.fleet ≡ self.old.fleet }
         ensures halt { IfErr result IsWantOfMemory }
     {
-        let count = self.fleet.count();
+        let count = self.fleet().count();
         for i in 0..count {
             self.up_if_below(NodeId::new(count - 1 - i))?;
         }
@@ -189,7 +191,7 @@ impl World {
         ensures fleet { self.new.fleet ≡ self.old.fleet }
         ensures halt { IfErr result IsWantOfMemory }
     {
-        let minions = self.fleet.minions(self.alloc, c)?;
+        let minions = self.fleet().minions(self.alloc, c)?;
         for minion in &minions {
             self.up_minion(c, *minion)?;
         }
@@ -224,7 +226,7 @@ impl World {
         requires minion { minion < length self.now.fleet.tree }
         ensures { result ≡ length (node_log self.now.fleet.tree self.now.network c minion) }
     {
-        self.nodes[c.index()].log(&self.fleet.id(minion)).len() as u32
+        self.nodes.get(c).log(&self.fleet().id(minion)).len() as u32
     }
 
     // How many entries of a minion the parent of a node is known to hold.
@@ -232,7 +234,7 @@ impl World {
         requires { c < length self.now.fleet.tree }
         ensures { result ≡ known_ups_at self.now.network c minion }
     {
-        self.nodes[c.index()].known_ups(minion)
+        self.nodes.get(c).known_ups(minion)
     }
 
     // The first entry of a minion that the parent of a node is not known to hold goes to it, if there is one.
@@ -245,8 +247,8 @@ impl World {
         ensures halt { IfErr result IsWantOfMemory }
     {
         let n = self.known_ups(c, minion);
-        let id = self.fleet.id(minion);
-        let Some(entry) = at(self.nodes[c.index()].log(&id), n as usize) else {
+        let id = self.fleet().id(minion);
+        let Some(entry) = at(self.nodes.get(c).log(&id), n as usize) else {
             return Ok(());
         };
         let message = Message::Up {
@@ -254,7 +256,7 @@ impl World {
             n,
             entry: entry.copy(self.alloc)?,
         };
-        let parent = self.fleet.parent(c);
+        let parent = self.fleet().parent(c);
         self.exchange(c, parent, &message)
     }
 }

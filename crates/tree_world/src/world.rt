@@ -1,12 +1,13 @@
 //! The network of a fleet, and its turns.
 ghost use Rattle.std.specs.Prelude.{◌≡◌, ◌<◌, ◌^◌, All, length, map, true, IfOk, IfErr, IfSome, OnOk};
-ghost use Rattle.node_core.specs.Node.{first_node, is_neighbour, IsCounted};
+ghost use Rattle.node_core.specs.Node.{is_neighbour, IsCounted};
 ghost use Rattle.salt_wire.specs.Limits.{Within};
 ghost use Rattle.tree_world.specs.Halts as halts;
 ghost use Rattle.tree_world.specs.Halts.{IsReceiptHalt, NeverTooBig, CountsWriteFaults};
-ghost use Rattle.tree_world.specs.Steps.{TakesPacket, IsReplyTo, AddsReply, AddsPacket, AddsPackets, first_pending};
+ghost use Rattle.tree_world.specs.Steps.{TakesPacket, IsReplyTo, AddsReply, AddsPacket, AddsPackets};
 ghost use Rattle.salt_outside.specs.Streams.{contents_after, IsPart};
 
+use crate::nodes::Nodes;
 use crate::packet::Packet;
 use crate::queries::{counts_text, data_text, exit_text, jobs_text, settled_text, summary_text};
 use crate::report::{row_count, rows_of, sort_by_id};
@@ -16,7 +17,7 @@ use crate::text::{
 use exec_functions::Holdings;
 use fleet_config::Fleet;
 use fleet_turns::Turn;
-use node_core::{Node, PendFault, PublishFault, TakeFault};
+use node_core::{PublishFault, TakeFault};
 use salt_outside::{Outside, Sink};
 use salt_value::{Jid, NodeId, Text, Value, Word};
 use salt_wire::Message;
@@ -31,17 +32,14 @@ pub const MOST_SENT: u64 = 4_294_967_295;
 
 /// A fleet, its nodes, and the packets that were ever sent.
 #[derive(Drop)]
-pub struct World {
+pub struct World<'f> {
     pub(crate) alloc: Global,
-    pub(crate) fleet: Fleet,
     order: Vec<NodeId>,
-    pub(crate) nodes: Vec<Node>,
+    pub(crate) nodes: Nodes<'f>,
     pub(crate) packets: Vec<Packet>,
 }
 
-impl Model for World {
-    ghost use Rattle.std.specs.Prelude.{◌≡◌, ◌<◌, All, length};
-    ghost use Rattle.fleet_config.specs.Tree.{minions};
+impl<'f> Model for World<'f> {
     ghost use Rattle.tree_world.specs.Network.{System};
 
     ghost Value = { System };
@@ -52,11 +50,11 @@ impl Model for World {
 
     ghost coded = { Prim.hlevel (codes, value.the_row.coded, target.the_row.coded) };
 
-    ghost use Rattle.tree_world.specs.Report as report;
+    ghost use Rattle.tree_world.specs.Nodes.{IsWhole};
 
-    ghost view = { λ w. record { fleet = w.fleet; network = record { nodes = w.nodes.items; packets = w.packets.items } } };
+    ghost view = { λ w. record { fleet = w.nodes.fleet; network = record { nodes = w.nodes.states; packets = w.packets.items } } };
 
-    ghost invariant = { λ w. (length w.nodes.items ≡ length w.fleet.tree) × (w.order.items ≡ report.by_id w.fleet.tree (minions w.fleet.tree 0)) × All (λ m. m < length w.fleet.tree) w.order.items × (0 < length w.fleet.tree) };
+    ghost invariant = { λ w. IsWhole w.nodes w.order.items };
 }
 
 /// Why a turn was not finished. The world is given up.
@@ -108,7 +106,7 @@ fn step_fault(halt: Halt) -> StepFault
     }
 }
 
-impl World {
+impl<'f> World<'f> {
     ghost use Rattle.tree_world.specs.Network.{System, system};
     ghost use Rattle.tree_world.specs.Runs.{Follows};
     ghost use Rattle.fleet_config.specs.Tree.{is_minion};
@@ -118,18 +116,16 @@ impl World {
     ghost use Rattle.tree_world.specs.Text.{turn_text, Prints, PrintsPart};
 
     /// The nodes of a fleet as they start, where it has one: each minion has booted once.
-    pub fn of(alloc: Global, fleet: Fleet) -> Result<World, AllocError>
-        requires { 0 < length fleet.tree }
-        ensures { IfOk result (λ world. world ≡ system fleet) }
+    pub fn of(alloc: Global, fleet: &'f Fleet) -> Result<World<'f>, AllocError>
+        requires { 0 < length fleet.now.tree }
+        ensures { IfOk result (λ world. world ≡ system fleet.now) }
     {
         let mut order = fleet.minions(alloc, NodeId::TOP)?;
-        sort_by_id(&fleet, &mut order)?;
-        let nodes = first_nodes(alloc, &fleet)?;
+        sort_by_id(fleet, &mut order)?;
         Ok(World {
             alloc,
-            fleet,
             order,
-            nodes,
+            nodes: Nodes::start(alloc, fleet)?,
             packets: Vec::new(alloc),
         })
     }
@@ -139,7 +135,7 @@ impl World {
         ensures value { result.now ≡ self.now.fleet }
         ensures some { 0 < length self.now.fleet.tree }
     {
-        &self.fleet
+        self.nodes.fleet()
     }
 
     /// One turn: the network goes on by its step, and what the turn prints is written to the sink. After an `Err` the world is given
@@ -215,10 +211,7 @@ impl World {
         ensures halt { IfErr result (Halts
             (Turn.Publish moment kind tgt.now fun.now args.now) self.old) }
     {
-        let Some(top) = self.nodes.first_mut() else {
-            unreachable!();
-        };
-        match top.publish(&self.fleet, moment, kind, tgt.as_str(), fun, args) {
+        match self.nodes.publish(moment, kind, tgt, fun, args) {
             Ok(jid) => Ok(published_text(self.alloc, jid)?),
             Err(PublishFault::Refused { cause }) => Ok(refused_text(self.alloc, cause)?),
             Err(PublishFault::TooBig { leaf }) => Err(Halt::TooBig { leaf }),
@@ -230,13 +223,11 @@ impl World {
     fn report(&self, jid: Jid) -> Result<Vec<u8>, AllocError>
         ensures { IfOk result (λ v. v.items ≡ turn_text (Turn.Report jid) self.now) }
     {
-        let Some(top) = self.nodes.first() else {
-            unreachable!();
-        };
+        let top = self.nodes.get(NodeId::TOP);
         let Some(seq) = number_of(jid, top.jobs()) else {
             return unknown_text(self.alloc, jid);
         };
-        let rows = rows_of(self.alloc, &self.fleet, top, seq as u32, &self.order)?;
+        let rows = rows_of(self.alloc, self.fleet(), top, seq as u32, &self.order)?;
         rows_text(self.alloc, jid, &top.jobs()[seq].fun, &rows)
     }
 
@@ -244,13 +235,11 @@ impl World {
     fn exit(&self, jid: Jid) -> Result<Vec<u8>, AllocError>
         ensures { IfOk result (λ v. v.items ≡ turn_text (Turn.Exit jid) self.now) }
     {
-        let Some(top) = self.nodes.first() else {
-            unreachable!();
-        };
+        let top = self.nodes.get(NodeId::TOP);
         let Some(seq) = number_of(jid, top.jobs()) else {
             return unknown_text(self.alloc, jid);
         };
-        let rows = rows_of(self.alloc, &self.fleet, top, seq as u32, &self.order)?;
+        let rows = rows_of(self.alloc, self.fleet(), top, seq as u32, &self.order)?;
         exit_text(self.alloc, jid, &rows)
     }
 
@@ -258,9 +247,7 @@ impl World {
     fn jobs(&self) -> Result<Vec<u8>, AllocError>
         ensures { IfOk result (λ v. v.items ≡ turn_text Turn.Jobs self.now) }
     {
-        let Some(top) = self.nodes.first() else {
-            unreachable!();
-        };
+        let top = self.nodes.get(NodeId::TOP);
         jobs_text(self.alloc, top.jobs())
     }
 
@@ -268,11 +255,9 @@ impl World {
     fn summary(&self) -> Result<Vec<u8>, AllocError>
         ensures { IfOk result (λ v. v.items ≡ turn_text Turn.Summary self.now) }
     {
-        let Some(top) = self.nodes.first() else {
-            unreachable!();
-        };
+        let top = self.nodes.get(NodeId::TOP);
         let jobs = top.jobs().len();
-        let rows = row_count(&self.fleet, top, jobs as u32, &self.order);
+        let rows = row_count(self.fleet(), top, jobs as u32, &self.order);
         summary_text(self.alloc, jobs, rows)
     }
 
@@ -282,8 +267,8 @@ impl World {
         requires { is_minion self.now.fleet.tree node ≡ true }
         ensures { IfOk result (λ v. v.items ≡ turn_text (Turn.Data node) self.now) }
     {
-        let id = self.fleet.id(node);
-        match self.nodes[node.index()].holdings() {
+        let id = self.fleet().id(node);
+        match self.nodes.get(node).holdings() {
             Some(held) => data_text(self.alloc, &id, held),
             None => data_text(self.alloc, &id, &Holdings::none(self.alloc)),
         }
@@ -294,7 +279,7 @@ impl World {
         requires { node < length self.now.fleet.tree }
         ensures { IfOk result (λ v. v.items ≡ turn_text (Turn.Counts node) self.now) }
     {
-        counts_text(self.alloc, &self.fleet, node, &self.nodes[node.index()])
+        counts_text(self.alloc, self.fleet(), node, self.nodes.get(node))
     }
 
     // The line of a packet.
@@ -302,7 +287,7 @@ impl World {
         ensures { IfOk result (λ v. v.items ≡ turn_text (Turn.Packet i) self.now) }
     {
         match at(&self.packets, i as usize) {
-            Some(packet) => packet_text(self.alloc, &self.fleet, i, packet),
+            Some(packet) => packet_text(self.alloc, self.fleet(), i, packet),
             None => missing_text(self.alloc, i),
         }
     }
@@ -315,7 +300,7 @@ impl World {
         ensures fleet { self.new.fleet ≡ self.old.fleet }
     {
         let max = count.min(MOST_SENT) as u32;
-        let messages = pending_of(&self.fleet, &self.nodes, from, to, max)?;
+        let messages = self.nodes.pending(from, to, max)?;
         push_packets(self.alloc, &mut self.packets, from, to, &messages)
     }
 
@@ -331,10 +316,10 @@ impl World {
             return Ok(());
         };
         let (from, to) = (packet.from(), packet.to());
-        if to.index() >= self.nodes.len() {
+        if to.place() >= self.nodes.fleet().count() {
             return Ok(());
         }
-        let reply = take_packet(self.alloc, &self.fleet, &mut self.nodes, packet)?;
+        let reply = take_packet(self.alloc, &mut self.nodes, packet)?;
         push_reply(self.alloc, &mut self.packets, from, to, reply)?;
         Ok(())
     }
@@ -343,22 +328,19 @@ impl World {
 // The receiver takes a packet, and may reply.
 fn take_packet(
     alloc: Global,
-    fleet: &Fleet,
-    nodes: &mut Vec<Node>,
+    nodes: &mut Nodes,
     packet: &Packet,
 ) -> Result<Option<Message>, Halt>
-    requires node { packet.now.to < length nodes.old.items }
-    requires nodes { length nodes.old.items ≡ length fleet.now.tree }
-    ensures nodes { OnOk result (TakesPacket fleet.now packet.now nodes.old.items nodes.new.items) }
-    ensures reply { IfOk result (IsReplyTo fleet.now nodes.old.items packet.now) }
-    ensures count { length nodes.new.items ≡ length nodes.old.items }
+    requires node { packet.now.to < length nodes.old.states }
+    ensures fleet { nodes.new.fleet ≡ nodes.old.fleet }
+    ensures nodes { OnOk result (TakesPacket nodes.old.fleet packet.now nodes.old.states nodes.new.states) }
+    ensures reply { IfOk result (IsReplyTo nodes.old.fleet nodes.old.states packet.now) }
     ensures fits { IfOk result (λ reply. IfSome reply Within) }
     ensures counted { IfOk result (λ reply. IfSome reply IsCounted) }
-    ensures halt { IfErr result (IsReceiptHalt nodes.old.items packet.now) }
+    ensures halt { IfErr result (IsReceiptHalt nodes.old.states packet.now) }
 {
     let message = packet.message(alloc)?;
-    let node = &mut nodes[packet.to().index()];
-    let taken = node.take(fleet, packet.to(), packet.from(), &message);
+    let taken = nodes.take(packet.from(), packet.to(), &message);
     drop(message);
     match taken {
         Ok(reply) => Ok(reply),
@@ -386,28 +368,6 @@ fn push_reply(
         packets.push(packet?)?;
     }
     Ok(())
-}
-
-// What a node has for a neighbour.
-fn pending_of(
-    fleet: &Fleet,
-    nodes: &[Node],
-    from: NodeId,
-    to: NodeId,
-    max: u32,
-) -> Result<Vec<Message>, AllocError>
-    requires from { from < length fleet.now.tree }
-    requires nodes { length nodes.now ≡ length fleet.now.tree }
-    requires neighbour { is_neighbour fleet.now.tree from to ≡ true }
-    ensures ok { IfOk result (λ v. v.items ≡ first_pending fleet.now.tree from to max nodes.now) }
-    ensures fits { IfOk result (λ v. All Within v.items) }
-    ensures counted { IfOk result (λ v. All IsCounted v.items) }
-{
-    match nodes[from.index()].pending(fleet, from, to, max) {
-        Ok(messages) => Ok(messages),
-        Err(PendFault::NoMemory) => Err(AllocError),
-        Err(PendFault::NotNeighbour) => unreachable!(),
-    }
 }
 
 // These messages as packets, after those that are there.
@@ -469,15 +429,4 @@ fn tell_some<K: Sink>(sink: &mut K, text: &[u8]) -> Result<(), StepFault>
         return Ok(());
     }
     tell(sink, text)
-}
-
-// Each node as it starts.
-fn first_nodes(alloc: Global, fleet: &Fleet) -> Result<Vec<Node>, AllocError>
-    ensures { IfOk result (λ nodes. nodes.items ≡ map first_node fleet.now.tree) }
-{
-    let mut nodes = Vec::new(alloc);
-    for i in 0..fleet.count() {
-        nodes.push(Node::start(alloc, fleet, NodeId::new(i))?)?;
-    }
-    Ok(nodes)
 }
