@@ -56,7 +56,8 @@ fn play<K: Sink>(alloc: Global, script: Script, sink: &mut K) -> Result<(), Step
         minions,
         turns,
     } = script;
-    let mut world = World::of(alloc, Fleet::flat(alloc, top, minions)?)?;
+    let fleet = Fleet::flat(alloc, top, minions)?;
+    let mut world = World::of(alloc, &fleet)?;
     run_turns(&mut world, turns.as_slice(), sink)
 }
 

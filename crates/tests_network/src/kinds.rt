@@ -7,7 +7,7 @@ use salt_value::{MinionId, Text};
 use std::alloc::Global;
 use std::process::Abort;
 use target_tree::Kind;
-use tree_world::{StepFault, World};
+use tree_world::StepFault;
 
 // The minion web1 and then the minion db1.
 static NODES: [Sown; 2] = [
@@ -54,19 +54,19 @@ fn add_groups(rt: &impl Abort, alloc: Global, fleet: &mut Fleet) {
     }
 }
 
-// The world of a top and these nodes, with the nodegroups.
-fn grouped(rt: &impl Abort, alloc: Global, nodes: &[Sown]) -> World {
+// A top and these nodes, with the nodegroups.
+fn grouped(rt: &impl Abort, alloc: Global, nodes: &[Sown]) -> Fleet {
     let mut fleet = fleet(rt, alloc, nodes);
     add_groups(rt, alloc, &mut fleet);
-    world_of(rt, alloc, fleet)
+    fleet
 }
 
 // The same, whose top may hold one job.
-fn narrow(rt: &impl Abort, alloc: Global, nodes: &[Sown]) -> World {
+fn narrow(rt: &impl Abort, alloc: Global, nodes: &[Sown]) -> Fleet {
     let mut fleet = fleet(rt, alloc, nodes);
     add_groups(rt, alloc, &mut fleet);
     fleet.limits(1, MOST_JOURNAL_LIMIT);
-    world_of(rt, alloc, fleet)
+    fleet
 }
 
 // Nine jobs, each for a target of another kind, and one more. Both minions take all of them, run those that are for them, and
@@ -278,15 +278,16 @@ static BIG: [Play; 3] = [
 
 static BIG_TEXT: &str = "publish 20231114221320000000\n";
 
-// A play in this world ends so, and prints this.
+// A play in the world of this fleet ends so, and prints this.
 fn play(
     rt: &impl Abort,
     alloc: Global,
-    mut world: World,
+    fleet: &Fleet,
     plays: &[Play],
     wanted: Result<(), StepFault>,
     text: &str,
 ) {
+    let mut world = world_of(rt, alloc, fleet);
     let mut sink = MemSink::new(alloc, Vec::new(alloc));
     let ended = perform_all(rt, alloc, &mut world, &mut sink, plays);
     printed(rt, &sink, ended, wanted, text);
@@ -295,35 +296,35 @@ fn play(
 #[test]
 fn a_job_is_run_where_its_target_holds(rt: HostRuntime) {
     let alloc = rt.alloc();
-    let world = grouped(&rt, alloc, &NODES);
-    play(&rt, alloc, world, &KINDS, Ok(()), KINDS_TEXT);
+    let fleet = grouped(&rt, alloc, &NODES);
+    play(&rt, alloc, &fleet, &KINDS, Ok(()), KINDS_TEXT);
 }
 
 #[test]
 fn a_target_is_asked_of_what_the_jobs_before_left(rt: HostRuntime) {
     let alloc = rt.alloc();
-    let world = grouped(&rt, alloc, &SITE);
-    play(&rt, alloc, world, &SETS, Ok(()), SETS_TEXT);
+    let fleet = grouped(&rt, alloc, &SITE);
+    play(&rt, alloc, &fleet, &SETS, Ok(()), SETS_TEXT);
 }
 
 #[test]
 fn each_refusal_is_told_by_its_first_cause(rt: HostRuntime) {
     let alloc = rt.alloc();
-    let world = narrow(&rt, alloc, &NODES);
-    play(&rt, alloc, world, &REFUSED, Ok(()), REFUSED_TEXT);
+    let fleet = narrow(&rt, alloc, &NODES);
+    play(&rt, alloc, &fleet, &REFUSED, Ok(()), REFUSED_TEXT);
 }
 
 #[test]
 fn no_job_is_published_after_the_greatest_jid(rt: HostRuntime) {
     let alloc = rt.alloc();
-    let world = grouped(&rt, alloc, &NODES);
-    play(&rt, alloc, world, &LAST, Ok(()), LAST_TEXT);
+    let fleet = grouped(&rt, alloc, &NODES);
+    play(&rt, alloc, &fleet, &LAST, Ok(()), LAST_TEXT);
 }
 
 #[test]
 fn a_pattern_that_is_too_big_ends_the_play(rt: HostRuntime) {
     let alloc = rt.alloc();
-    let world = grouped(&rt, alloc, &NODES);
+    let fleet = grouped(&rt, alloc, &NODES);
     let fault = Err(StepFault::TooBig { leaf: 1 });
-    play(&rt, alloc, world, &BIG, fault, BIG_TEXT);
+    play(&rt, alloc, &fleet, &BIG, fault, BIG_TEXT);
 }

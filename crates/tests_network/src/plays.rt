@@ -93,16 +93,11 @@ pub fn fleet(rt: &impl Abort, alloc: Global, nodes: &[Sown]) -> Fleet {
 }
 
 /// The world of a fleet.
-pub fn world_of(rt: &impl Abort, alloc: Global, fleet: Fleet) -> World {
+pub fn world_of<'f>(rt: &impl Abort, alloc: Global, fleet: &'f Fleet) -> World<'f> {
     if fleet.count() == 0 {
         panic!(rt; "no node");
     }
     World::of(alloc, fleet).expect(rt, FAILED)
-}
-
-/// The world of a top and these nodes.
-pub fn world(rt: &impl Abort, alloc: Global, nodes: &[Sown]) -> World {
-    world_of(rt, alloc, fleet(rt, alloc, nodes))
 }
 
 /// A text that is so many of this part.

@@ -1,5 +1,5 @@
 //! Plays with settles. The expected text is worked out by hand from the rules of the network.
-use crate::plays::{Play, Sown, perform_all, printed, world};
+use crate::plays::{Play, Sown, perform_all, printed, fleet, world_of};
 use fleet_config::Role;
 use salt_outside::MemSink;
 use std::alloc::Global;
@@ -153,7 +153,8 @@ unknown 19700101000000000000\n";
 
 // A play in a new world of these nodes ends well, and prints this.
 fn play(rt: &impl Abort, alloc: Global, nodes: &[Sown], plays: &[Play], text: &str) {
-    let mut world = world(rt, alloc, nodes);
+    let fleet = fleet(rt, alloc, nodes);
+    let mut world = world_of(rt, alloc, &fleet);
     let mut sink = MemSink::new(alloc, Vec::new(alloc));
     let ended = perform_all(rt, alloc, &mut world, &mut sink, plays);
     printed(rt, &sink, ended, Ok(()), text);

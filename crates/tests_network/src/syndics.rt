@@ -1,6 +1,6 @@
 //! Plays over a tree with syndics: jobs go down through them, and entries come up. The expected text is worked out by
 //! hand from the rules of the network.
-use crate::plays::{Play, Sown, perform_all, printed, world};
+use crate::plays::{Play, Sown, perform_all, printed, fleet, world_of};
 use fleet_config::Role;
 use salt_outside::MemSink;
 use target_tree::Kind;
@@ -72,7 +72,8 @@ packet 31 sa top 0103026d320000000101000000000002\n";
 #[test]
 fn a_job_goes_down_and_its_returns_come_up(rt: HostRuntime) {
     let alloc = rt.alloc();
-    let mut world = world(&rt, alloc, &TREE);
+    let fleet = fleet(&rt, alloc, &TREE);
+    let mut world = world_of(&rt, alloc, &fleet);
     let mut sink = MemSink::new(alloc, Vec::new(alloc));
     let ended = perform_all(&rt, alloc, &mut world, &mut sink, &PING);
     printed(&rt, &sink, ended, Ok(()), PING_TEXT);

@@ -1,5 +1,5 @@
 //! Whole plays over a top with two minions. The expected text is worked out by hand from the rules of the network.
-use crate::plays::{FAILED, PAIR, Play, perform_all, printed, world};
+use crate::plays::{FAILED, PAIR, Play, perform_all, printed, fleet, world_of};
 use salt_outside::MemSink;
 use std::alloc::Global;
 use std::process::Abort;
@@ -135,7 +135,8 @@ unknown 19700101000000000000\n";
 
 // A play in a new world ends well, and prints this.
 fn play(rt: &impl Abort, alloc: Global, plays: &[Play], text: &str) {
-    let mut world = world(rt, alloc, &PAIR);
+    let fleet = fleet(rt, alloc, &PAIR);
+    let mut world = world_of(rt, alloc, &fleet);
     let mut sink = MemSink::new(alloc, Vec::new(alloc));
     let ended = perform_all(rt, alloc, &mut world, &mut sink, plays);
     printed(rt, &sink, ended, Ok(()), text);
@@ -169,7 +170,8 @@ fn the_longest_target_is_sent(rt: HostRuntime) {
 #[test]
 fn a_sink_that_fails_ends_the_play(rt: HostRuntime) {
     let alloc = rt.alloc();
-    let mut world = world(&rt, alloc, &PAIR);
+    let fleet = fleet(&rt, alloc, &PAIR);
+    let mut world = world_of(&rt, alloc, &fleet);
     let mut sink = MemSink::new(alloc, [2].to_vec(alloc).expect(&rt, FAILED));
     let ended = perform_all(&rt, alloc, &mut world, &mut sink, &PING);
     let fault = Err(StepFault::WriteFault);

@@ -17,4 +17,4 @@ loop-place-preserved c =
     let test = c.loop-place-test.true in
     let all = c.count-place-end.ensures.value in
     let l : place < length f.tree = omega arith in
-    rw c.in_ok-push.ensures (one_more f place c.loop-place.nodes.items _ l (rw c.new.ensures at c.in_ok-start.ensures.ok) c.loop-place.invariant)
+    rw c.in_ok-push.ensures.items (one_more f place c.loop-place.nodes.items _ l (rw c.new.ensures at c.in_ok-start.ensures.ok) c.loop-place.invariant)
