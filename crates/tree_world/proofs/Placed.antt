@@ -1,5 +1,5 @@
 -- The states of nodes, and nodes at their places.
-use Rattle.std.proofs.Common.{◌≡◌, ℕ, zero, suc, ◌+◌, ◌<◌, ◌∙◌, sym, ap, refl, subst, List, [], ◌∷◌, ◌++◌, length, set, get_or, take, map, Option, None, Some, arith}
+use Rattle.std.proofs.Common.{◌≡◌, ℕ, zero, suc, ◌+◌, ◌<◌, All, ◌∙◌, sym, ap, refl, subst, List, [], ◌∷◌, ◌++◌, length, set, get_or, take, map, Option, None, Some, arith}
 use Rattle.std.specs.Prelude.{Result, Ok, Err, IfOk, IfErr, OnErr}
 use Rattle.std.proofs.lemmas.List.{length-set, length-map, length_push, map-set, map-append}
 use Rattle.salt_wire.specs.declared.message.Message.{Message}
@@ -12,8 +12,10 @@ use Rattle.node_core.specs.declared.faults.TakeFault.{TakeFault}
 use Rattle.node_core.specs.declared.faults.PublishFault.{PublishFault}
 use Rattle.node_core.specs.Node.{NodeState, PlacedNode, MessageResult, message_result, reply_answer, first_node, starting_node, TakesMessage, DeniesMessage, IsTakeFault}
 use Rattle.node_core.specs.Publications.{Order, PublishesOrder, DeniesOrder, Publishes, IsPublishFault}
+use Rattle.fleet_config.specs.Tree.{minions}
 use Rattle.tree_world.specs.Network.{node_at}
-use Rattle.tree_world.specs.Nodes.{FleetNodes, ArePlacedFrom, ArePlaced, AreStarted, TakesAt, StaysAt, PublishesAtTop, states_of}
+use Rattle.tree_world.specs.Report.{by_id}
+use Rattle.tree_world.specs.Nodes.{FleetNodes, ArePlacedFrom, ArePlaced, AreStarted, IsWhole, TakesAt, StaysAt, PublishesAtTop, states_of}
 
 -- the state at a place
 pub state_at : (nodes : List PlacedNode) (i : ℕ) (d : PlacedNode) → i < length nodes → node_at (states_of nodes) i ≡ (get_or nodes i d).state
@@ -117,3 +119,17 @@ one_more f i nodes n l is h =
       each = push_from f 0 nodes n h.each (ap (λ (p : PlacedNode). p.fleet) is) (ap (λ (p : PlacedNode). p.me) is ∙ sym count ∙ (omega arith));
       states = map-append (λ (p : PlacedNode). p.state) nodes (n ∷ []) ∙ ap (λ s. s ++ n.state ∷ []) h.states ∙ first_more f i n l is;
     }
+
+-- as many states with another one at a place
+pub same_count : (nodes : List PlacedNode) (i : ℕ) (n : PlacedNode) → length (states_of (set nodes i n)) ≡ length (states_of nodes)
+same_count nodes i n =
+    length-map (set nodes i n) (λ (p : PlacedNode). p.state) ∙ length-set nodes i n ∙ sym (length-map nodes (λ (p : PlacedNode). p.state))
+
+-- a world is whole with other states of as many nodes
+pub whole_after : (old new : FleetNodes) (sorted : List ℕ) → IsWhole old sorted → new.fleet ≡ old.fleet → length new.states ≡ length old.states → IsWhole new sorted
+whole_after old new sorted h fleet count = record {
+  some = subst (λ (f : FleetConfig). 0 < length f.tree) (sym fleet) h.some;
+  count = count ∙ h.count ∙ ap (λ (f : FleetConfig). length f.tree) (sym fleet);
+  order = subst (λ (f : FleetConfig). sorted ≡ by_id f.tree (minions f.tree 0)) (sym fleet) h.order;
+  within = subst (λ (f : FleetConfig). All (λ m. m < length f.tree) sorted) (sym fleet) h.within;
+}

@@ -78,6 +78,7 @@ impl<'f> Nodes<'f> {
         requires counted { IsCounted message.now }
         requires fits { Within message.now }
         ensures fleet { self.new.fleet ≡ self.old.fleet }
+        ensures count { length self.new.states ≡ length self.old.states }
         ensures ok { IfOk result (TakesAt self.old.fleet to from message.now
             self.old.states self.new.states) }
         ensures counted { IfOk result (λ reply. IfSome reply IsCounted) }
@@ -99,6 +100,7 @@ impl<'f> Nodes<'f> {
     ) -> Result<Jid, PublishFault>
         requires some { 0 < length self.old.states }
         ensures fleet { self.new.fleet ≡ self.old.fleet }
+        ensures count { length self.new.states ≡ length self.old.states }
         ensures ok { IfOk result (PublishesAtTop moment
             (order kind tgt.now fun.now args.now) self.old self.new) }
         ensures err { OnErr result (self.new.states ≡ self.old.states) }

@@ -195,6 +195,7 @@ impl<'f> World<'f> {
     }
 
     // A publication at the top, and its line.
+    #[tactic(auto, using(crate::proofs::Placed::whole_after))]
     fn publish(
         &mut self,
         moment: u64,
@@ -305,7 +306,7 @@ impl<'f> World<'f> {
     }
 
     // The receiver takes a packet, and its reply is a packet.
-    #[tactic(auto, using(crate::proofs::Delivers::delivered_past, crate::proofs::Delivers::delivered_to))]
+    #[tactic(auto, using(crate::proofs::Delivers::delivered_past, crate::proofs::Delivers::delivered_to, crate::proofs::Placed::whole_after))]
     pub(crate) fn deliver(&mut self, i: u64) -> Result<(), Halt>
         requires { i < 2 ^ 64 }
         ensures halt { IfErr result (Halts (Turn.Deliver i) self.old) }
@@ -333,6 +334,7 @@ fn take_packet(
 ) -> Result<Option<Message>, Halt>
     requires node { packet.now.to < length nodes.old.states }
     ensures fleet { nodes.new.fleet ≡ nodes.old.fleet }
+    ensures count { length nodes.new.states ≡ length nodes.old.states }
     ensures nodes { OnOk result (TakesPacket nodes.old.fleet packet.now nodes.old.states nodes.new.states) }
     ensures reply { IfOk result (IsReplyTo nodes.old.fleet nodes.old.states packet.now) }
     ensures fits { IfOk result (λ reply. IfSome reply Within) }

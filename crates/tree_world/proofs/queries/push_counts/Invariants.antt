@@ -6,5 +6,5 @@ use Rattle.tree_world.proofs.queries.push_counts.Given as goal
 -- the text so far and that of the minions left are the whole text
 abbrev pub invariant-loop-minion : goal.invariant-loop-minion
 invariant-loop-minion l =
-    l.out.items ++ flat_map (entries_text l.fleet.tree l.node.records) (drop l.minion-index l.minions)
-    ≡ l.initial.out.items ++ flat_map (entries_text l.fleet.tree l.node.records) l.minions
+    l.out.items ++ flat_map (entries_text l.fleet.tree l.node.state.records) (drop l.minion-index l.minions)
+    ≡ l.initial.out.items ++ flat_map (entries_text l.fleet.tree l.node.state.records) l.minions

@@ -10,7 +10,7 @@ use Rattle.tree_world.proofs.report.job_row_count.Given as goal
 abbrev pub invariant-loop-minion : goal.invariant-loop-minion
 invariant-loop-minion l = record {
   count : l.rows
-      + length (filter_map (λ m. row_of (id_of l.fleet.tree m) (return_of l.seq (log (id_of l.fleet.tree m) l.node.records))) (drop l.minion-index l.order))
-      ≡ length (report l.fleet.tree l.node.records l.seq);
+      + length (filter_map (λ m. row_of (id_of l.fleet.tree m) (return_of l.seq (log (id_of l.fleet.tree m) l.node.state.records))) (drop l.minion-index l.order))
+      ≡ length (report l.fleet.tree l.node.state.records l.seq);
   few : l.rows ≤ l.minion-index;
 }

@@ -3,7 +3,7 @@ use Rattle.std.specs.Prelude.{IfOk, IfErr}
 use Rattle.node_core.specs.Node.{PlacedNode}
 use Rattle.node_core.specs.Publications.{order, PublishesOrder, DeniesOrder}
 use Rattle.tree_world.specs.Nodes.{FleetNodes, PublishesAtTop, DeniesAtTop, states_of}
-use Rattle.tree_world.proofs.Placed.{placed_after, publishes_at, denies_order, fleet_is, me_is, state_at, within_nodes}
+use Rattle.tree_world.proofs.Placed.{placed_after, publishes_at, denies_order, fleet_is, me_is, state_at, within_nodes, same_count}
 use Rattle.tree_world.proofs.nodes.Nodes.publish.Goals as goal
 
 pub invariant_of-self : goal.invariant_of-self
@@ -48,3 +48,6 @@ returns-clause-fault c =
     let told = subst (λ (t : List ℕ). IfErr r (DeniesOrder c.args.moment (order c.args.kind t c.args.fun.now c.args.args.now) old)) c.as_str.ensures.value c.publish.ensures.fault in
     subst (λ (v : FleetNodes). IfErr r (DeniesAtTop c.args.moment o v)) c.self.view_is
     (denies_order f c.args.moment o nodes old new state fleet r told)
+
+pub returns-clause-count : goal.returns-clause-count
+returns-clause-count c = same_count c.self.inside.nodes.items 0 c.publish.new.self ∙ ap (λ (v : FleetNodes). length v.states) c.self.view_is

@@ -2,7 +2,7 @@ use Rattle.std.proofs.Common.{◌≡◌, ◌<◌, subst, sym, ◌∙◌, ap, ℕ
 use Rattle.std.specs.Prelude.{IfOk, IfErr, OnErr}
 use Rattle.node_core.specs.Node.{PlacedNode}
 use Rattle.tree_world.specs.Nodes.{FleetNodes, TakesAt, StaysAt, DeniesAt, states_of}
-use Rattle.tree_world.proofs.Placed.{placed_after, takes_at, stays_at, denies_at, fleet_is, me_is, state_at, within_nodes}
+use Rattle.tree_world.proofs.Placed.{placed_after, takes_at, stays_at, denies_at, fleet_is, me_is, state_at, within_nodes, same_count}
 use Rattle.tree_world.proofs.nodes.Nodes.take.Goals as goal
 
 pub invariant_of-self : goal.invariant_of-self
@@ -37,6 +37,7 @@ returns c =
     let denied = denies_at f i from message nodes old new state fleet me r c.take.ensures.fault in
     record {
       fleet = ap (λ (v : FleetNodes). v.fleet) c.self.view_is;
+      count = same_count nodes i new ∙ ap (λ (v : FleetNodes). length v.states) c.self.view_is;
       ok = subst (λ (v : FleetNodes). IfOk r (TakesAt v.fleet c.args.to from message v.states (states_of (set nodes i new)))) c.self.view_is
           (subst (λ (k : ℕ). IfOk r (TakesAt f k from message (states_of nodes) (states_of (set nodes i new)))) c.index.ensures took);
       counted = c.take.ensures.counted;
