@@ -12,6 +12,8 @@ mod nodes;
 #[cfg(test)]
 mod orders;
 #[cfg(test)]
+mod readings;
+#[cfg(test)]
 mod steps;
 #[cfg(test)]
 mod syndics;

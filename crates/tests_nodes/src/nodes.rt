@@ -1,17 +1,19 @@
 //! The nodes of a flat fleet, step by step. The expectations are worked out by hand from the rules of a call.
 use crate::made::{FAILED, pair, word};
-use crate::steps::{Asked, Reply, Sent, Step, has_jobs, has_outcomes, has_returns, takes, tells};
+use crate::steps::{
+    Asked, Reply, Sent, Step, has_jobs, has_outcomes, has_returns, publish, start_at, takes, tells,
+};
 use fleet_config::Fleet;
 use node_core::{Node, PendFault, PublishFault, PublishRefusal, Stray, TakeFault};
-use salt_value::{NodeId, Word};
+use salt_value::Word;
 use std::alloc::Global;
 use std::process::Abort;
 use target_tree::{Kind, TargetFault};
 
 // How many of so many publications are accepted before one is refused.
-fn publish(top: &mut Node, fleet: &Fleet, tgt: &str, ping: &Word, count: u32) -> u32 {
+fn publish_all(rt: &impl Abort, top: &mut Node, tgt: &str, ping: &Word, count: u32) -> u32 {
     for done in 0..count {
-        if top.publish(fleet, 7, Kind::Glob, tgt, ping, &[]).is_err() {
+        if publish(rt, top, 7, Kind::Glob, tgt, ping, &[]).is_err() {
             return done;
         }
     }
@@ -19,9 +21,15 @@ fn publish(top: &mut Node, fleet: &Fleet, tgt: &str, ping: &Word, count: u32) ->
 }
 
 // A top that published so many jobs.
-fn published(rt: &impl Abort, alloc: Global, fleet: &Fleet, tgt: &str, count: u32) -> Node {
-    let mut top = Node::start(alloc, fleet, NodeId::TOP).expect(rt, FAILED);
-    publish(&mut top, fleet, tgt, &word(rt, alloc, "test.ping"), count);
+fn published<'f>(
+    rt: &impl Abort,
+    alloc: Global,
+    fleet: &'f Fleet,
+    tgt: &str,
+    count: u32,
+) -> Node<'f> {
+    let mut top = start_at(rt, alloc, fleet, 0);
+    publish_all(rt, &mut top, tgt, &word(rt, alloc, "test.ping"), count);
     top
 }
 
@@ -49,8 +57,8 @@ static MINION: [Step; 13] = [
 fn a_minion_takes_each_job_once_and_in_order(rt: HostRuntime) {
     let alloc = rt.alloc();
     let fleet = pair(&rt, alloc);
-    let mut node = Node::start(alloc, &fleet, NodeId::new(1)).expect(&rt, FAILED);
-    takes(&rt, alloc, &mut node, &fleet, 1, &MINION);
+    let mut node = start_at(&rt, alloc, &fleet, 1);
+    takes(&rt, alloc, &mut node, &MINION);
     // it has run them, and keeps none
     has_jobs(&rt, &node, 0);
 }
@@ -86,7 +94,7 @@ fn a_top_takes_each_entry_once_and_in_order(rt: HostRuntime) {
     let alloc = rt.alloc();
     let fleet = pair(&rt, alloc);
     let mut top = published(&rt, alloc, &fleet, "*", 2);
-    takes(&rt, alloc, &mut top, &fleet, 0, &TOP);
+    takes(&rt, alloc, &mut top, &TOP);
     has_returns(&rt, &top, &TOP_RETURNS);
 }
 
@@ -103,11 +111,11 @@ static UPWARD_LATER: [Asked; 1] = [(0, 9, 2)];
 fn a_minion_tells_its_count_and_then_its_entries(rt: HostRuntime) {
     let alloc = rt.alloc();
     let fleet = pair(&rt, alloc);
-    let mut node = Node::start(alloc, &fleet, NodeId::new(2)).expect(&rt, FAILED);
-    takes(&rt, alloc, &mut node, &fleet, 2, &FIRST_JOB);
-    tells(&rt, &node, &fleet, 2, &UPWARD);
-    takes(&rt, alloc, &mut node, &fleet, 2, &FIRST_ENTRY);
-    tells(&rt, &node, &fleet, 2, &UPWARD_LATER);
+    let mut node = start_at(&rt, alloc, &fleet, 2);
+    takes(&rt, alloc, &mut node, &FIRST_JOB);
+    tells(&rt, &node, &UPWARD);
+    takes(&rt, alloc, &mut node, &FIRST_ENTRY);
+    tells(&rt, &node, &UPWARD_LATER);
 }
 
 static TWO_JOBS: [Step; 1] = [(1, Sent::Have(2), Reply::Nothing)];
@@ -121,18 +129,18 @@ fn a_top_tells_each_child_the_jobs_it_lacks(rt: HostRuntime) {
     let fleet = pair(&rt, alloc);
     let mut top = published(&rt, alloc, &fleet, "m?", 3);
     has_jobs(&rt, &top, 3);
-    takes(&rt, alloc, &mut top, &fleet, 0, &TWO_JOBS);
-    tells(&rt, &top, &fleet, 0, &DOWNWARD);
+    takes(&rt, alloc, &mut top, &TWO_JOBS);
+    tells(&rt, &top, &DOWNWARD);
 }
 
 // The text of the jid of a publication for all minions.
 fn jid_text(
+    rt: &impl Abort,
     top: &mut Node,
-    fleet: &Fleet,
     moment: u64,
     ping: &Word,
 ) -> Result<[u8; 20], PublishFault> {
-    match top.publish(fleet, moment, Kind::Glob, "*", ping, &[]) {
+    match publish(rt, top, moment, Kind::Glob, "*", ping, &[]) {
         Ok(jid) => Ok(jid.text()),
         Err(fault) => Err(fault),
     }
@@ -143,12 +151,11 @@ fn publishes(
     rt: &impl Abort,
     alloc: Global,
     top: &mut Node,
-    fleet: &Fleet,
     rows: &[(u64, Result<[u8; 20], PublishFault>)],
 ) {
     let ping = word(rt, alloc, "test.ping");
     for (moment, jid) in rows {
-        assert_eq!(rt; jid_text(top, fleet, *moment, &ping), *jid);
+        assert_eq!(rt; jid_text(rt, top, *moment, &ping), *jid);
     }
 }
 
@@ -173,7 +180,7 @@ fn publications_end_at_the_last_jid(rt: HostRuntime) {
     let alloc = rt.alloc();
     let fleet = pair(&rt, alloc);
     let mut top = published(&rt, alloc, &fleet, "*", 0);
-    publishes(&rt, alloc, &mut top, &fleet, &LAST_JIDS);
+    publishes(&rt, alloc, &mut top, &LAST_JIDS);
     has_jobs(&rt, &top, 1);
 }
 
@@ -190,7 +197,7 @@ fn publications_end_at_65535_jobs(rt: HostRuntime) {
     let fleet = pair(&rt, alloc);
     let mut top = published(&rt, alloc, &fleet, "*", 65_600);
     has_jobs(&rt, &top, 65_535);
-    publishes(&rt, alloc, &mut top, &fleet, &FULL);
+    publishes(&rt, alloc, &mut top, &FULL);
 }
 
 static FULL_AT_2: [(u64, Result<[u8; 20], PublishFault>); 1] = [(
@@ -207,7 +214,7 @@ fn publications_end_where_the_fleet_says(rt: HostRuntime) {
     fleet.limits(2, 64);
     let mut top = published(&rt, alloc, &fleet, "*", 9);
     has_jobs(&rt, &top, 2);
-    publishes(&rt, alloc, &mut top, &fleet, &FULL_AT_2);
+    publishes(&rt, alloc, &mut top, &FULL_AT_2);
 }
 
 // What a minion runs: a function that is none, and one that counts; and messages that no node takes.
@@ -231,8 +238,8 @@ static OUTCOMES: [(u32, Option<(u8, i64)>); 4] = [
 fn a_minion_runs_each_job_on_what_it_holds_then(rt: HostRuntime) {
     let alloc = rt.alloc();
     let fleet = pair(&rt, alloc);
-    let mut node = Node::start(alloc, &fleet, NodeId::new(1)).expect(&rt, FAILED);
-    takes(&rt, alloc, &mut node, &fleet, 1, &RUNS);
+    let mut node = start_at(&rt, alloc, &fleet, 1);
+    takes(&rt, alloc, &mut node, &RUNS);
     has_outcomes(&rt, &node, "m2", &OUTCOMES);
 }
 
@@ -252,9 +259,9 @@ static TOLD: [Asked; 1] = [(0, 9, 6)];
 fn a_minion_tells_its_notes_before_its_returns(rt: HostRuntime) {
     let alloc = rt.alloc();
     let fleet = pair(&rt, alloc);
-    let mut node = Node::start(alloc, &fleet, NodeId::new(1)).expect(&rt, FAILED);
-    takes(&rt, alloc, &mut node, &fleet, 1, &TELLING);
-    tells(&rt, &node, &fleet, 1, &TOLD);
+    let mut node = start_at(&rt, alloc, &fleet, 1);
+    takes(&rt, alloc, &mut node, &TELLING);
+    tells(&rt, &node, &TOLD);
 }
 
 static NOTES: [Step; 5] = [
@@ -274,7 +281,7 @@ fn a_top_takes_the_notes_of_a_minion(rt: HostRuntime) {
     let alloc = rt.alloc();
     let fleet = pair(&rt, alloc);
     let mut top = published(&rt, alloc, &fleet, "*", 1);
-    takes(&rt, alloc, &mut top, &fleet, 0, &NOTES);
+    takes(&rt, alloc, &mut top, &NOTES);
     has_outcomes(&rt, &top, "m2", &NOTED);
 }
 
@@ -314,8 +321,8 @@ static MATCHED: [(u32, Option<(u8, i64)>); 2] = [(0, Some((0, 0))), (1, None)];
 fn a_minion_reads_the_patterns_of_its_next_job(rt: HostRuntime) {
     let alloc = rt.alloc();
     let fleet = pair(&rt, alloc);
-    let mut node = Node::start(alloc, &fleet, NodeId::new(1)).expect(&rt, FAILED);
-    takes(&rt, alloc, &mut node, &fleet, 1, &PATTERNS);
+    let mut node = start_at(&rt, alloc, &fleet, 1);
+    takes(&rt, alloc, &mut node, &PATTERNS);
     has_outcomes(&rt, &node, "m2", &MATCHED);
 }
 

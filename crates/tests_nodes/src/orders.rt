@@ -1,8 +1,8 @@
 //! Orders at a top: what it publishes, and why it refuses the rest.
 use crate::made::{FAILED, Given, group, pair, value, word};
-use fleet_config::Fleet;
+use crate::steps::{publish, start_at};
 use node_core::{Node, PublishFault, PublishRefusal};
-use salt_value::{Items, NodeId, Word};
+use salt_value::{Items, Word};
 use std::alloc::Global;
 use std::process::Abort;
 use target_tree::{Kind, TargetFault};
@@ -167,24 +167,23 @@ fn argument(rt: &impl Abort, alloc: Global, given: Given) -> Items {
 }
 
 fn fault_of(
+    rt: &impl Abort,
     top: &mut Node,
-    fleet: &Fleet,
     fun: &Word,
     order: &Order,
     args: &Items,
 ) -> Option<PublishFault> {
     let (moment, kind, tgt, _, _) = *order;
-    top.publish(fleet, moment, kind, tgt, fun, args.as_slice())
-        .err()
+    publish(rt, top, moment, kind, tgt, fun, args.as_slice()).err()
 }
 
 // Each answer, and one job more exactly where no fault is told.
-fn answers(rt: &impl Abort, alloc: Global, top: &mut Node, fleet: &Fleet, orders: &[Order]) {
+fn answers(rt: &impl Abort, alloc: Global, top: &mut Node, orders: &[Order]) {
     let fun = word(rt, alloc, "test.echo");
     for (i, order) in orders.iter().enumerate() {
         let before = top.jobs().len();
         let args = argument(rt, alloc, order.3);
-        let fault = fault_of(top, fleet, &fun, order, &args);
+        let fault = fault_of(rt, top, &fun, order, &args);
         let count = if order.4.is_none() { 1 } else { 0 };
         let more = top.jobs().len().saturating_sub(before);
         assert_eq!(rt; (fault, more), (order.4, count), "order {i}");
@@ -197,6 +196,6 @@ fn a_top_publishes_or_tells_the_first_cause(rt: HostRuntime) {
     let mut fleet = pair(&rt, alloc);
     fleet.limits(2, 64);
     group(&rt, alloc, &mut fleet, "base", "m1 or G@os:arch");
-    let mut top = Node::start(alloc, &fleet, NodeId::TOP).expect(&rt, FAILED);
-    answers(&rt, alloc, &mut top, &fleet, &ORDERS);
+    let mut top = start_at(&rt, alloc, &fleet, 0);
+    answers(&rt, alloc, &mut top, &ORDERS);
 }

@@ -6,8 +6,8 @@ ghost use Rattle.salt_wire.specs.Limits.{Within, EntryFits};
 
 use crate::made::{FAILED, id, job, job_for, word};
 use fleet_config::Fleet;
-use node_core::{Node, PendFault, Stray, TakeFault};
-use salt_value::{Event, Fields, NodeId, Outcome, Value};
+use node_core::{Node, PendFault, PublishFault, Stray, TakeFault};
+use salt_value::{Event, Fields, Jid, NodeId, Outcome, Value, Word};
 use salt_wire::{Entry, Message};
 use std::alloc::Global;
 use std::process::Abort;
@@ -178,69 +178,80 @@ fn reply_of(answer: &Result<Option<Message>, TakeFault>) -> Reply {
     }
 }
 
-fn take(node: &mut Node, fleet: &Fleet, me: u32, from: u32, message: &Message) -> Reply
+/// The node at this place of a fleet, as it starts.
+pub fn start_at<'f>(rt: &impl Abort, alloc: Global, fleet: &'f Fleet, me: u32) -> Node<'f> {
+    if me >= fleet.count() {
+        panic!(rt; "{FAILED}");
+    }
+    Node::start(alloc, fleet, NodeId::new(me)).expect(rt, FAILED)
+}
+
+/// What the top answers to an order.
+pub fn publish(
+    rt: &impl Abort,
+    top: &mut Node,
+    moment: u64,
+    kind: Kind,
+    tgt: &str,
+    fun: &Word,
+    args: &[Value],
+) -> Result<Jid, PublishFault> {
+    if top.me().place() != 0 {
+        panic!(rt; "{FAILED}");
+    }
+    top.publish(moment, kind, tgt, fun, args)
+}
+
+fn take(node: &mut Node, from: u32, message: &Message) -> Reply
     requires { Within message.now }
 {
-    if me >= fleet.count() || !is_counted(message) {
+    if !is_counted(message) {
         return Reply::Other;
     }
-    let answer = node.take(fleet, NodeId::new(me), NodeId::new(from), message);
+    let answer = node.take(NodeId::new(from), message);
     reply_of(&answer)
 }
 
-/// Each message in order, and what the node at the place `me` answers.
-pub fn takes(
-    rt: &impl Abort,
-    alloc: Global,
-    node: &mut Node,
-    fleet: &Fleet,
-    me: u32,
-    steps: &[Step],
-) {
+/// Each message in order, and what the node answers.
+pub fn takes(rt: &impl Abort, alloc: Global, node: &mut Node, steps: &[Step]) {
     for (i, (from, sent, reply)) in steps.iter().enumerate() {
-        let answer = take(node, fleet, me, *from, &message(rt, alloc, *sent));
+        let answer = take(node, *from, &message(rt, alloc, *sent));
         assert_eq!(rt; answer, *reply, "at step {i}");
     }
 }
 
-/// Each message of the top, which the node at the place `me` takes as its next job.
-pub fn takes_jobs(rt: &impl Abort, node: &mut Node, fleet: &Fleet, me: u32, messages: &[Message])
+/// Each message of the top, which the node takes as its next job.
+pub fn takes_jobs(rt: &impl Abort, node: &mut Node, messages: &[Message])
     requires { All Within messages.now }
 {
     for message in messages {
-        let answer = take(node, fleet, me, 0, message);
+        let answer = take(node, 0, message);
         assert!(rt; matches!(answer, Reply::Jobs(_)));
     }
 }
 
 /// What the top has for the node at this place.
-pub fn jobs_for(rt: &impl Abort, top: &Node, fleet: &Fleet, peer: u32) -> Vec<Message>
+pub fn jobs_for(rt: &impl Abort, top: &Node, peer: u32) -> Vec<Message>
     ensures value { All Within result.items }
 {
-    if fleet.count() == 0 {
-        panic!(rt; "{FAILED}");
-    }
-    match top.pending(fleet, NodeId::TOP, NodeId::new(peer), 99) {
+    match top.pending(NodeId::new(peer), 99) {
         Ok(messages) => messages,
         Err(_) => panic!(rt; "{FAILED}"),
     }
 }
 
-fn pending(node: &Node, fleet: &Fleet, me: u32, peer: u32, max: u32) -> usize {
-    if me >= fleet.count() {
-        return 98;
-    }
-    match node.pending(fleet, NodeId::new(me), NodeId::new(peer), max) {
+fn pending(node: &Node, peer: u32, max: u32) -> usize {
+    match node.pending(NodeId::new(peer), max) {
         Ok(messages) => messages.len(),
         Err(PendFault::NotNeighbour) => 99,
         Err(PendFault::NoMemory) => 97,
     }
 }
 
-/// How many messages the node at the place `me` has for each peer.
-pub fn tells(rt: &impl Abort, node: &Node, fleet: &Fleet, me: u32, all: &[Asked]) {
+/// How many messages the node has for each peer.
+pub fn tells(rt: &impl Abort, node: &Node, all: &[Asked]) {
     for (peer, max, count) in all {
-        assert_eq!(rt; pending(node, fleet, me, *peer, *max), *count, "to {peer}");
+        assert_eq!(rt; pending(node, *peer, *max), *count, "to {peer}");
     }
 }
 

@@ -1,8 +1,9 @@
 //! A syndic of a tree: jobs go down through it, and entries up.
 use crate::made::{FAILED, TREE, grown, word};
-use crate::steps::{Asked, Reply, Sent, Step, has_jobs, has_returns, takes, tells};
-use node_core::{Node, Stray};
-use salt_value::NodeId;
+use crate::steps::{
+    Asked, Reply, Sent, Step, has_jobs, has_returns, publish, start_at, takes, tells,
+};
+use node_core::Stray;
 use target_tree::Kind;
 
 // What the syndic at place 1 answers: the top is its parent, and the minion at place 2 and the syndic at place 3 its
@@ -71,9 +72,9 @@ static SYNDIC_RETURNS: [(&str, u32, bool); 3] = [
 fn a_syndic_takes_jobs_down_and_entries_up(rt: HostRuntime) {
     let alloc = rt.alloc();
     let fleet = grown(&rt, alloc, &TREE);
-    let mut node = Node::start(alloc, &fleet, NodeId::new(1)).expect(&rt, FAILED);
-    takes(&rt, alloc, &mut node, &fleet, 1, &SYNDIC);
-    tells(&rt, &node, &fleet, 1, &SYNDIC_TELLS);
+    let mut node = start_at(&rt, alloc, &fleet, 1);
+    takes(&rt, alloc, &mut node, &SYNDIC);
+    tells(&rt, &node, &SYNDIC_TELLS);
     has_jobs(&rt, &node, 2);
     has_returns(&rt, &node, &SYNDIC_RETURNS);
 }
@@ -92,8 +93,8 @@ static UNMATCHED: [Step; 2] = [
 fn a_syndic_takes_jobs_whose_patterns_it_cannot_read(rt: HostRuntime) {
     let alloc = rt.alloc();
     let fleet = grown(&rt, alloc, &TREE);
-    let mut node = Node::start(alloc, &fleet, NodeId::new(1)).expect(&rt, FAILED);
-    takes(&rt, alloc, &mut node, &fleet, 1, &UNMATCHED);
+    let mut node = start_at(&rt, alloc, &fleet, 1);
+    takes(&rt, alloc, &mut node, &UNMATCHED);
     has_jobs(&rt, &node, 2);
 }
 
@@ -104,8 +105,8 @@ static NEW_TELLS: [Asked; 3] = [(2, 9, 0), (3, 9, 0), (0, 9, 1)];
 fn a_new_syndic_tells_its_count_alone(rt: HostRuntime) {
     let alloc = rt.alloc();
     let fleet = grown(&rt, alloc, &TREE);
-    let node = Node::start(alloc, &fleet, NodeId::new(1)).expect(&rt, FAILED);
-    tells(&rt, &node, &fleet, 1, &NEW_TELLS);
+    let node = start_at(&rt, alloc, &fleet, 1);
+    tells(&rt, &node, &NEW_TELLS);
     has_jobs(&rt, &node, 0);
 }
 
@@ -127,11 +128,10 @@ static TOP_RETURNS: [(&str, u32, bool); 3] = [("m1", 0, true), ("m2", 0, false),
 fn a_top_takes_the_entries_that_a_syndic_relays(rt: HostRuntime) {
     let alloc = rt.alloc();
     let fleet = grown(&rt, alloc, &TREE);
-    let mut top = Node::start(alloc, &fleet, NodeId::TOP).expect(&rt, FAILED);
+    let mut top = start_at(&rt, alloc, &fleet, 0);
     let ping = word(&rt, alloc, "test.ping");
-    top.publish(&fleet, 7, Kind::Glob, "*", &ping, &[])
-        .expect(&rt, FAILED);
-    takes(&rt, alloc, &mut top, &fleet, 0, &TOP);
-    tells(&rt, &top, &fleet, 0, &TOP_TELLS);
+    publish(&rt, &mut top, 7, Kind::Glob, "*", &ping, &[]).expect(&rt, FAILED);
+    takes(&rt, alloc, &mut top, &TOP);
+    tells(&rt, &top, &TOP_TELLS);
     has_returns(&rt, &top, &TOP_RETURNS);
 }

@@ -1,9 +1,7 @@
 //! Jobs for targets of each kind: each minion runs those that are meant for it, on what it holds then.
 use crate::made::{FAILED, HOLDERS, arguments, group, peopled, word};
-use crate::steps::{has_outcomes, jobs_for, takes_jobs};
-use fleet_config::Fleet;
+use crate::steps::{has_outcomes, jobs_for, publish, start_at, takes_jobs};
 use node_core::Node;
-use salt_value::NodeId;
 use std::alloc::Global;
 use std::process::Abort;
 use target_tree::Kind;
@@ -63,12 +61,11 @@ static OF_M1: [(u32, Option<(u8, i64)>); 13] = [
     (12, None),
 ];
 
-fn publishes(rt: &impl Abort, alloc: Global, top: &mut Node, fleet: &Fleet, orders: &[Order]) {
+fn publishes(rt: &impl Abort, alloc: Global, top: &mut Node, orders: &[Order]) {
     for (kind, tgt, fun, args) in orders {
         let fun = word(rt, alloc, fun);
         let args = arguments(rt, alloc, args);
-        top.publish(fleet, 7, *kind, tgt, &fun, args.as_slice())
-            .expect(rt, FAILED);
+        publish(rt, top, 7, *kind, tgt, &fun, args.as_slice()).expect(rt, FAILED);
     }
 }
 
@@ -77,14 +74,13 @@ fn runs(
     rt: &impl Abort,
     alloc: Global,
     top: &Node,
-    fleet: &Fleet,
     me: u32,
     name: &str,
     rows: &[(u32, Option<(u8, i64)>)],
 ) {
-    let jobs = jobs_for(rt, top, fleet, me);
-    let mut node = Node::start(alloc, fleet, NodeId::new(me)).expect(rt, FAILED);
-    takes_jobs(rt, &mut node, fleet, me, jobs.as_slice());
+    let jobs = jobs_for(rt, top, me);
+    let mut node = start_at(rt, alloc, top.fleet(), me);
+    takes_jobs(rt, &mut node, jobs.as_slice());
     has_outcomes(rt, &node, name, rows);
 }
 
@@ -93,8 +89,8 @@ fn minions_run_the_jobs_that_are_meant_for_them(rt: HostRuntime) {
     let alloc = rt.alloc();
     let mut fleet = peopled(&rt, alloc, &HOLDERS);
     group(&rt, alloc, &mut fleet, "base", "m1 or I@role:web");
-    let mut top = Node::start(alloc, &fleet, NodeId::TOP).expect(&rt, FAILED);
-    publishes(&rt, alloc, &mut top, &fleet, &ORDERS);
-    runs(&rt, alloc, &top, &fleet, 1, "m2", &OF_M2);
-    runs(&rt, alloc, &top, &fleet, 2, "m1", &OF_M1);
+    let mut top = start_at(&rt, alloc, &fleet, 0);
+    publishes(&rt, alloc, &mut top, &ORDERS);
+    runs(&rt, alloc, &top, 1, "m2", &OF_M2);
+    runs(&rt, alloc, &top, 2, "m1", &OF_M1);
 }
