@@ -85,7 +85,7 @@ pub entry_passes : FindsMinionsBelow → FindsPlaces → (from : ℕ) (id : List
     → k + 1 < 2 ^ 32 → EntryFits entry → k ≡ length (log id n.state.records) → IsEntryToRecord id entry n
 entry_passes finds places from id k entry n e counted fits next =
     let told : AreTrue (is_parent n.fleet.tree n.me from) n.state.minion (is_below n.fleet.tree n.me from id) (may_record k id entry n.state)
-        (not (is_next k id n.state) || names_held (jobs_held n.state.records) entry) =
+    (not (is_next k id n.state) || names_held (jobs_held n.state.records) entry) =
     four_tests _ _ _ _ _ _ _ _ _ _ e in
     let here : is_next k id n.state ≡ true = same_is k (length (log id n.state.records)) next in
     record {

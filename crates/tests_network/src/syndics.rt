@@ -1,6 +1,6 @@
 //! Plays over a tree with syndics: jobs go down through them, and entries come up. The expected text is worked out by
 //! hand from the rules of the network.
-use crate::plays::{Play, Sown, perform_all, printed, fleet, world_of};
+use crate::plays::{Play, Sown, fleet, perform_all, printed, world_of};
 use fleet_config::Role;
 use salt_outside::MemSink;
 use target_tree::Kind;

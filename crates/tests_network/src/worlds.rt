@@ -1,5 +1,5 @@
 //! Whole plays over a top with two minions. The expected text is worked out by hand from the rules of the network.
-use crate::plays::{FAILED, PAIR, Play, perform_all, printed, fleet, world_of};
+use crate::plays::{FAILED, PAIR, Play, fleet, perform_all, printed, world_of};
 use salt_outside::MemSink;
 use std::alloc::Global;
 use std::process::Abort;

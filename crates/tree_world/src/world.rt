@@ -327,11 +327,7 @@ impl<'f> World<'f> {
 }
 
 // The receiver takes a packet, and may reply.
-fn take_packet(
-    alloc: Global,
-    nodes: &mut Nodes,
-    packet: &Packet,
-) -> Result<Option<Message>, Halt>
+fn take_packet(alloc: Global, nodes: &mut Nodes, packet: &Packet) -> Result<Option<Message>, Halt>
     requires node { packet.now.to < length nodes.old.states }
     ensures fleet { nodes.new.fleet ≡ nodes.old.fleet }
     ensures count { length nodes.new.states ≡ length nodes.old.states }

@@ -14,6 +14,6 @@ pub returns-then-is_parent-2-clause-counted : goal.returns-then-is_parent-2-clau
 returns-then-is_parent-2-clause-counted c =
     let h = c.self.invariant in
     let few = subst (λ (n : PlacedNode). (id : List ℕ) → length (log id n.state.records) < 2 ^ 32) c.self.view_is
-        (λ id. subst (λ (l : List Entry). length l < 2 ^ 32) (h.logged id) (h.short id)) in
+    (λ id. subst (λ (l : List Entry). length l < 2 ^ 32) (h.logged id) (h.short id)) in
     let n = c.args.self.now in
     subst (λ (ms : List Message). All IsCounted ms) (sym c.in_ok-pending_up.ensures.ok) (up_counted n.fleet.tree n.me c.args.max n.state few)

@@ -8,4 +8,4 @@ pub returns-clause-fits : goal.returns-clause-fits
 returns-clause-fits c =
     subst (λ (ms : List Message). All Within ms) (sym c.in_ok-push_entries.ensures)
     (ups_after c.id-id.result c.known-known.result c.args.max c.log-log.result.now c.args.out.now.items c.as_bytes-bytes.ensures.valid c.log-log.ensures.few
-      c.log-log.ensures.fits c.requires.fits)
+    c.log-log.ensures.fits c.requires.fits)
