@@ -1,5 +1,5 @@
 -- What a node has in memory of its records, as a minion or as a master. No public contract cites these, but for `IsStoreOf`.
-use Rattle.std.specs.Prelude.{ℕ, ◌≡◌, ◌+◌, ◌*◌, ◌<◌, ◌≤◌, ◌^◌, Bool, true, false, List, [], length, All, Option, None, Some}
+use Rattle.std.specs.Prelude.{ℕ, ◌≡◌, ◌+◌, ◌*◌, ◌<◌, ◌≤◌, ◌^◌, Bool, true, false, List, [], length, All, Option, None, Some, if◌then◌else◌}
 use Rattle.fleet_config.specs.Limits.{most_jobs}
 use Rattle.fleet_config.specs.Tree.{Tree, is_minion, minions, ids_below}
 use Rattle.exec_functions.specs.declared.holdings.Holdings.{Holdings}
@@ -27,6 +27,10 @@ is_minion_core (Master core) = false
 abbrev pub held_in : Core → Holdings
 held_in (Minion core) = core.held
 held_in (Master core) = no_holdings
+
+-- what a minion holds; none of a master
+abbrev pub holdings_in : Core → Option Holdings
+holdings_in core = if is_minion_core core then Some (held_in core) else None
 
 -- what a master keeps of its jobs
 abbrev pub store_in : Core → Option (List StoredJob)

@@ -32,7 +32,7 @@ impl Core {
 
     /// What a minion holds. A master holds nothing.
     pub fn holdings(&self) -> Option<&Holdings>
-        ensures value { option_copied result ≡ (if index.is_minion_core self.now then Some (index.held_in self.now) else None) }
+        ensures value { option_copied result ≡ index.holdings_in self.now }
     {
         match self {
             Core::Minion(core) => Some(core.held()),

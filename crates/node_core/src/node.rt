@@ -63,7 +63,7 @@ impl<'f> Model for Node<'f> {
 
 impl<'f> Node<'f> {
     ghost use Rattle.fleet_config.specs.Tree.{is_minion, minions};
-    ghost use Rattle.node_core.specs.Node.{PlacedNode, starting_node, IsSamePlace, TakesMessage, DeniesMessage, AreApart, pending_for, pending_down, pending_up, runs_next, is_neighbour, may_take, may_record, IsCounted};
+    ghost use Rattle.node_core.specs.Node.{PlacedNode, starting_node, IsSamePlace, TakesMessage, DeniesMessage, IsApartFrom, holdings_of, pending_for, pending_down, pending_up, runs_next, is_neighbour, may_take, may_record, IsCounted};
     ghost use Rattle.node_core.specs.Records.{jobs, log, jobs_held};
     ghost use Rattle.node_core.specs.Counts.{known_count};
     ghost use Rattle.minion_core.specs.Flat.{return_of, is_first};
@@ -161,7 +161,7 @@ impl<'f> Node<'f> {
         ensures ok { IfOk result (λ v. v.items ≡ take max (pending_for to self.now)) }
         ensures counted { IfOk result (λ v. All IsCounted v.items) }
         ensures fits { IfOk result (λ v. All Within v.items) }
-        ensures not_neighbour { IsErrOf result NotNeighbour → AreApart self.now.fleet.tree self.now.me to }
+        ensures not_neighbour { IsErrOf result NotNeighbour → IsApartFrom to self.now }
         ensures complete { OnOk result (is_neighbour self.now.fleet.tree self.now.me to ≡ true) }
     {
         let _ = &self.records;
@@ -246,7 +246,7 @@ impl<'f> Node<'f> {
 
     /// What a minion holds. A master holds nothing.
     pub fn holdings(&self) -> Option<&Holdings>
-        ensures value { option_copied result ≡ (if self.now.state.minion then Some self.now.state.held else None) }
+        ensures value { option_copied result ≡ holdings_of self.now.state }
         ensures none { result ≡ None → self.now.state.held ≡ no_holdings }
     {
         self.core.holdings()

@@ -138,7 +138,8 @@ pub fn counts_text(
     node: &Node,
 ) -> Result<Vec<u8>, AllocError>
     requires { place < length fleet.now.tree }
-    ensures { IfOk result (λ v. v.items ≡ text.counts_text fleet.now.tree place node.now.state.records) }
+    ensures { IfOk result (λ v. v.items
+        ≡ text.counts_text fleet.now.tree place node.now.state.records) }
 {
     let mut line = Vec::new(alloc);
     line.extend_from_slice(b"counts ")?;

@@ -331,7 +331,8 @@ fn take_packet(alloc: Global, nodes: &mut Nodes, packet: &Packet) -> Result<Opti
     requires node { packet.now.to < length nodes.old.states }
     ensures fleet { nodes.new.fleet ≡ nodes.old.fleet }
     ensures count { length nodes.new.states ≡ length nodes.old.states }
-    ensures nodes { OnOk result (TakesPacket nodes.old.fleet packet.now nodes.old.states nodes.new.states) }
+    ensures nodes { OnOk result (TakesPacket nodes.old.fleet packet.now
+        nodes.old.states nodes.new.states) }
     ensures reply { IfOk result (IsReplyTo nodes.old.fleet nodes.old.states packet.now) }
     ensures fits { IfOk result (λ reply. IfSome reply Within) }
     ensures counted { IfOk result (λ reply. IfSome reply IsCounted) }
