@@ -1,10 +1,10 @@
 -- What is known of a message that passes the first tests.
-use Rattle.std.proofs.Common.{◌≡◌, ℕ, ◌+◌, ◌<◌, ◌^◌, ◌∙◌, sym, ap, refl, subst, inl, inr, Bool, true, false, ◌&&◌, ◌==◌, nat_lt, List, [], ◌∷◌, length, None, Some, bytes_eq}
-use Rattle.std.specs.Prelude.{◌||◌, not, IsTrue, is_some, position}
+use Rattle.std.proofs.Common.{◌≡◌, ℕ, ◌+◌, ◌<◌, ◌^◌, ◌∙◌, sym, refl, subst, inl, inr, Bool, true, false, ◌&&◌, ◌==◌, nat_lt, List, [], ◌∷◌, length, None}
+use Rattle.std.specs.Prelude.{◌||◌, not, IsTrue, is_some}
 use Rattle.std.proofs.lemmas.Bool.Decides.{eqb_tells}
 use Rattle.fleet_config.specs.Causes.{first_cause}
 use Rattle.fleet_config.specs.Laws.{FindsMinionsBelow, FindsPlaces}
-use Rattle.fleet_config.specs.Tree.{Tree, id_of, ids_below, place_of, branch, is_parent, is_minion, is_within}
+use Rattle.fleet_config.specs.Tree.{Tree, ids_below, place_of, branch, is_parent, is_minion, is_within}
 use Rattle.fleet_config.proofs.Owns.{minion_within}
 use Rattle.salt_wire.specs.Limits.{EntryFits}
 use Rattle.salt_wire.specs.declared.message.Job.{Job}
@@ -14,7 +14,7 @@ use Rattle.minion_core.specs.Flat.{is_first}
 use Rattle.master_core.specs.Master.{place_in}
 use Rattle.node_core.specs.declared.faults.Stray.{Stray}
 use Rattle.node_core.specs.Records.{jobs_held, log}
-use Rattle.node_core.specs.Node.{NodeState, PlacedNode, is_below, is_next, may_take, may_record, names_held}
+use Rattle.node_core.specs.Node.{PlacedNode, is_below, is_next, may_take, may_record, names_held}
 use Rattle.node_core.specs.Steps.{first_stray_at, IsEntryToRecord}
 
 two_tests : (a b c : Bool) (x y : Stray) → first_cause ((a, x) ∷ (b && c, y) ∷ []) ≡ None → c ≡ true

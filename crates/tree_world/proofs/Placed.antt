@@ -1,5 +1,5 @@
 -- The states of nodes, and nodes at their places.
-use Rattle.std.proofs.Common.{◌≡◌, ℕ, zero, suc, ◌+◌, ◌<◌, All, ◌∙◌, sym, ap, refl, subst, List, [], ◌∷◌, ◌++◌, length, set, get_or, take, map, Option, None, Some, arith}
+use Rattle.std.proofs.Common.{◌≡◌, ℕ, zero, suc, ◌+◌, ◌<◌, All, ◌∙◌, sym, ap, refl, subst, List, [], ◌∷◌, ◌++◌, length, set, get_or, take, map, Option, arith}
 use Rattle.std.specs.Prelude.{Result, Ok, Err, IfOk, IfErr, OnErr}
 use Rattle.std.proofs.lemmas.List.{length-set, length-map, length_push, map-set, map-append}
 use Rattle.salt_wire.specs.declared.message.Message.{Message}

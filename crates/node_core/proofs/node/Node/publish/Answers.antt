@@ -1,4 +1,4 @@
-use Rattle.std.proofs.Common.{refl, ap, sym, ◌∙◌}
+use Rattle.std.proofs.Common.{refl, ap, ◌∙◌}
 use Rattle.node_core.specs.Node.{PlacedNode}
 use Rattle.node_core.proofs.Index.{job_for_top}
 use Rattle.node_core.proofs.node.Node.publish.Goals as goal

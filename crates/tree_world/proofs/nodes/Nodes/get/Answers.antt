@@ -1,4 +1,4 @@
-use Rattle.std.proofs.Common.{◌≡◌, ◌<◌, ◌∙◌, ap, length}
+use Rattle.std.proofs.Common.{◌<◌, ◌∙◌, ap, length}
 use Rattle.node_core.specs.Node.{PlacedNode}
 use Rattle.tree_world.specs.Nodes.{FleetNodes}
 use Rattle.tree_world.proofs.Placed.{fleet_is, me_is, within_nodes}

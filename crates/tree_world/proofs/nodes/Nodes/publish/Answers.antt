@@ -1,4 +1,4 @@
-use Rattle.std.proofs.Common.{◌≡◌, ◌<◌, subst, sym, ◌∙◌, ap, refl, ℕ, length, set, List}
+use Rattle.std.proofs.Common.{◌<◌, subst, sym, ◌∙◌, ap, refl, ℕ, length, set, List}
 use Rattle.std.specs.Prelude.{IfOk, IfErr}
 use Rattle.node_core.specs.Node.{PlacedNode}
 use Rattle.node_core.specs.Publications.{order, PublishesOrder, DeniesOrder}

@@ -1,4 +1,4 @@
-use Rattle.std.proofs.Common.{◌≡◌, ◌<◌, ◌∙◌, length, arith}
+use Rattle.std.proofs.Common.{◌<◌, length, arith}
 use Rattle.tree_world.proofs.Placed.{one_more}
 use Rattle.tree_world.proofs.nodes.Nodes.start.Goals as goal
 

@@ -1,4 +1,4 @@
-use Rattle.std.proofs.Common.{◌≡◌, ◌<◌, subst, sym, ◌∙◌, ap, ℕ, length, set}
+use Rattle.std.proofs.Common.{◌<◌, subst, sym, ◌∙◌, ap, ℕ, length, set}
 use Rattle.std.specs.Prelude.{IfOk, IfErr, OnErr}
 use Rattle.node_core.specs.Node.{PlacedNode}
 use Rattle.tree_world.specs.Nodes.{FleetNodes, TakesAt, StaysAt, DeniesAt, states_of}
