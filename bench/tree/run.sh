@@ -22,7 +22,9 @@ crates_of() {
 }
 for name in $(crates_of tree_world | awk '!seen[$0]++'); do
     mkdir -p "$work/crates/$name"
-    cp -r "$top/crates/$name/src" "$top/crates/$name/specs" "$top/crates/$name/proofs" "$work/crates/$name/"
+    for part in src specs proofs; do
+        ! [ -d "$top/crates/$name/$part" ] || cp -r "$top/crates/$name/$part" "$work/crates/$name/"
+    done
     grep "^$name:" "$top/crates.txt" >>"$work/crates.txt"
 done
 echo 'tree_bench: salt_value salt_outside target_tree exec_functions fleet_config tree_world anyhow' >>"$work/crates.txt"
