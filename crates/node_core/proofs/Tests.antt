@@ -39,6 +39,9 @@ module _ (t : Tree) (me from : ℕ) (message : Message) (node : NodeState) where
 
   -- a message that passes the first tests
   module _ (first : first_cause (first_tests t me from message node) ≡ None) where
+    pub passes_all : first_cause (run_tests message node) ≡ None → stray_of t me from message node ≡ None
+    passes_all passes = cause_next (run_tests message node) (first_tests t me from message node) first ∙ passes
+
     pub then_fault : {A : Type 0} (r : Result A TakeFault) → IsRunAnswer r message node → IfErr r (IsTakeFault t me from message node)
     then_fault (Ok x) h = tt
     then_fault (Err take.NoMemory) h = tt

@@ -1,5 +1,6 @@
 -- What a node has in memory of its records, as a minion or as a master. No public contract cites these, but for `IsStoreOf`.
 use Rattle.std.specs.Prelude.{ℕ, ◌≡◌, ◌+◌, ◌*◌, ◌<◌, ◌≤◌, ◌^◌, Bool, true, false, List, [], length, All, Option, None, Some, if◌then◌else◌}
+use Rattle.std.specs.List.{sum_by}
 use Rattle.fleet_config.specs.Limits.{most_jobs}
 use Rattle.fleet_config.specs.Tree.{Tree, is_minion, minions, ids_below}
 use Rattle.exec_functions.specs.declared.holdings.Holdings.{Holdings}
@@ -17,6 +18,7 @@ use Rattle.master_core.specs.Master.{MasterState, log_of_id}
 use Rattle.node_core.specs.declared.cores.Core.{Core}
 use Rattle.node_core.specs.declared.cores.Core.TheVariants.{Minion, Master}
 use Rattle.node_core.specs.Records.{jobs, jobs_held, log}
+use Rattle.node_core.specs.NextRecords.{most_own_entries, AreRecordsAt}
 
 -- the core is that of a minion
 abbrev pub is_minion_core : Core → Bool
@@ -57,10 +59,26 @@ pub record IsStoreOf (records : List Deed) (store : List StoredJob) : Type 0 whe
   pub jobs : stored_jobs store ≡ jobs records
   pub outcomes : (seq : ℕ) (id : List ℕ) → stored_outcome store seq id ≡ return_of seq (log id records)
 
--- a minion lists no job, and its own log has its start and at most two entries for each job that it ran
+-- how many starts a record is
+abbrev pub boots_in : Deed → ℕ
+boots_in (Publish job) = 0
+boots_in (Intake job) = 0
+boots_in (Up minion entry) = 0
+boots_in (Fire event) = 0
+boots_in (React items) = 0
+boots_in Boot = 1
+boots_in (Done seq changed entries) = 0
+
+-- how often a minion with these records started
+abbrev pub boot_count : List Deed → ℕ
+boot_count records = sum_by boots_in records
+
+-- a minion lists no job, and its own log has an entry for each start, and room for two entries of each job that it may run yet
 pub record IsMinionIndex (records : List Deed) (core : CoreState) : Type 0 where
   pub listed : jobs records ≡ []
-  pub short : length core.log ≤ 2 * core.jobs + 1
+  pub boots : core.boots ≡ boot_count records
+  pub booted : core.boots ≤ length core.log
+  pub short : length core.log ≤ 2 * core.jobs + most_own_entries
 
 -- a master has a log for each minion below it, and its jobs with their outcomes as its records say
 pub record IsMasterIndex (t : Tree) (me : ℕ) (records : List Deed) (core : MasterState) : Type 0 where
@@ -85,6 +103,7 @@ pub record IsIndex (t : Tree) (me : ℕ) (places : List ℕ) (records : List Dee
   pub logged : (id : List ℕ) → entries_in_core core id ≡ log id records
   pub short : (id : List ℕ) → length (entries_in_core core id) < 2 ^ 32
   pub kept : IsCoreIndex t me records core
+  pub right : AreRecordsAt t me records
 
 -- a record that adds one job at a master
 abbrev pub IsJobRecord : Deed → Job → Type 0

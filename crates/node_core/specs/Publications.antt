@@ -114,6 +114,10 @@ IsPublishFault fleet moment o node fault = IsOrderFault fleet moment o (jobs nod
 abbrev pub PublishesOrder : ℕ → Order → PlacedNode → PlacedNode → ℕ → Type 0
 PublishesOrder moment o before after jid = Publishes before.fleet moment o before.state after.state jid
 
+-- an order makes this job at the top
+abbrev pub MakesOrderJob : ℕ → Order → PlacedNode → Job → Type 0
+MakesOrderJob moment o n job = IsJobOfOrder n.fleet moment o (jobs n.state.records) job
+
 -- why a top publishes no job for an order
 abbrev pub DeniesOrder : ℕ → Order → PlacedNode → PublishFault → Type 0
 DeniesOrder moment o n fault = IsPublishFault n.fleet moment o n.state fault

@@ -21,14 +21,9 @@ use Rattle.salt_wire.specs.declared.message.Entry.{Entry}
 use Rattle.salt_wire.specs.declared.message.Message.{Message}
 use Rattle.salt_wire.specs.declared.message.Message.TheVariants as m
 use Rattle.salt_wire.specs.declared.deed.Deed.{Deed}
-use Rattle.salt_wire.specs.declared.deed.Deed.TheVariants.{Publish, Intake, Up, Fire, React, Boot, Done}
 use Rattle.target_tree.specs.declared.kind.Kind.{Kind}
-use Rattle.exec_functions.specs.declared.holdings.Holdings.{Holdings}
-use Rattle.fleet_config.specs.Tree.{Tree, id_of, ids_below}
-use Rattle.minion_core.specs.Core.{CoreState, core_after}
-use Rattle.minion_core.specs.Flat.{job_record, is_later, is_first}
-use Rattle.master_core.specs.Master.{place_in}
-use Rattle.node_core.specs.Records.{jobs, jobs_held, log}
+use Rattle.fleet_config.specs.Tree.{Tree, id_of, place_of}
+use Rattle.node_core.specs.Records.{jobs_held, log}
 use Rattle.minion_core.specs.Faults.{IsRunFault}
 use Rattle.minion_core.specs.declared.fault.RunFault.{RunFault}
 use Rattle.minion_core.specs.declared.fault.RunFault.TheVariants as run
@@ -36,8 +31,9 @@ use Rattle.node_core.specs.declared.faults.TakeFault.{TakeFault}
 use Rattle.node_core.specs.declared.faults.TakeFault.TheVariants as take
 use Rattle.node_core.specs.declared.faults.Stray.{Stray}
 use Rattle.node_core.specs.declared.faults.Stray.TheVariants as stray
-use Rattle.node_core.specs.Node.{NodeState, PlacedNode, in_state, run_tests, RunsBigPattern, first_tests, with_record, taken_in, names_held, after_message, after_pub, after_up, reply_answer, pubs_from, ups_from, pending_ups}
-use Rattle.node_core.specs.Node.Answer.{Reply}
+use Rattle.node_core.specs.Node.{NodeState, PlacedNode, in_state, run_tests, RunsBigPattern, first_tests, taken_in, pubs_from, ups_from, pending_ups}
+use Rattle.node_core.specs.Counts.{raised_counts}
+use Rattle.node_core.specs.NextRecords.{MayAdd, IsAddedRecord, is_next_entry}
 use Rattle.node_core.specs.Publications.{Order, order, order_jid, order_job, IsJobOfOrder, IsOrderFault}
 
 -- a refusal for a text that is no target, or want of memory
@@ -90,10 +86,6 @@ IsRunAnswer (Err take.NoMemory) message node = ⊤
 IsRunAnswer (Err (take.Stray cause)) message node = first_cause (run_tests message node) ≡ Some cause
 IsRunAnswer (Err (take.TooBig leaf)) message node = RunsBigPattern message node leaf
 
--- a minion that holds this, has booted once, and knows no counts
-abbrev pub booted_minion : Holdings → NodeState
-booted_minion held = record { minion = true; records = Boot ∷ []; held = held; known_jobs = []; known_ups = [] }
-
 -- why a message is stray before a job is looked into, if it is
 abbrev pub first_stray_of : Tree → ℕ → ℕ → Message → NodeState → Option Stray
 first_stray_of t me from message node = first_cause (first_tests t me from message node)
@@ -106,67 +98,46 @@ first_stray_at from message n = first_stray_of n.fleet.tree n.me from message n.
 abbrev pub up_stray_at : ℕ → List ℕ → ℕ → Entry → PlacedNode → Option Stray
 up_stray_at from id n entry node = first_stray_at from (m.Up id n entry) node
 
--- a node took a message that passes the tests, and replied, or not
-abbrev pub Accepts : ℕ → Message → PlacedNode → PlacedNode → Option Message → Type 0
-Accepts from message before after reply =
-    after_message before.fleet.tree before.me from message before.state ≡ record { node = after.state; answer = reply_answer reply }
+-- the counts that a message tells are raised
+abbrev pub raised_by : Tree → ℕ → Message → NodeState → NodeState
+raised_by t from (m.Have jobs) node = record node { known_jobs = raised_counts node.known_jobs from jobs }
+raised_by t from (m.UpHave id n) node = record node { known_ups = raised_counts node.known_ups (place_of t id) n }
+raised_by t from other node = node
 
--- a node took a job with this number, and replied how many it holds then
-abbrev pub AcceptsJob : ℕ → Job → PlacedNode → PlacedNode → ℕ → Type 0
-AcceptsJob seq job before after have =
-    after_pub before.fleet.tree before.me seq job before.state ≡ record { node = after.state; answer = Reply (m.Have have) }
+-- the same at the place of a node
+abbrev pub raised_at : ℕ → Message → PlacedNode → PlacedNode
+raised_at from message n = in_state (raised_by n.fleet.tree from message n.state) n
 
--- a node took an entry of a minion with this number, and replied how many it holds then
-abbrev pub AcceptsEntry : List ℕ → ℕ → Entry → PlacedNode → PlacedNode → ℕ → Type 0
-AcceptsEntry id n entry before after have =
-    after_up id n entry before.state ≡ record { node = after.state; answer = Reply (m.UpHave id have) }
+-- the reply to a message that was taken, if any: how many jobs, or entries of its minion, are held now
+abbrev pub reply_by : Message → NodeState → Option Message
+reply_by (m.Pub seq job) node = Some (m.Have (jobs_held node.records))
+reply_by (m.Up id n entry) node = Some (m.UpHave id (length (log id node.records)))
+reply_by other node = None
 
--- the node after a record
-abbrev pub placed_after : Deed → PlacedNode → PlacedNode
-placed_after deed n = in_state (with_record deed n.state) n
+-- the same of a node
+abbrev pub reply_at : Message → PlacedNode → Option Message
+reply_at message n = reply_by message n.state
 
--- the node after it took in a job
-abbrev pub after_job : ℕ → Job → PlacedNode → PlacedNode
-after_job seq job n = placed_after (taken_in n.fleet.tree n.me seq job n.state) n
+-- this is the record of a job with the next number, and the node may add it
+pub record IsTakenIn (seq : ℕ) (job : Job) (n : PlacedNode) (deed : Deed) : Type 0 where
+  pub is : deed ≡ taken_in n.fleet.tree n.me seq job n.state
+  pub next : MayAdd deed n
 
--- the node, a minion, after it ran a job
-abbrev pub after_run : ℕ → Job → PlacedNode → PlacedNode
-after_run seq job n = placed_after (job_record seq job (id_of n.fleet.tree n.me) n.state.held) n
+-- this is the record of a job from the parent, if its number is the next
+abbrev pub IsNextJobDeed : ℕ → Job → PlacedNode → Option Deed → Type 0
+IsNextJobDeed seq job n deed = IsAddedRecord (m.Pub seq job) n deed
 
--- the core of the minion with this id after it ran a job
-abbrev pub core_after_run : ℕ → Job → List ℕ → CoreState → CoreState
-core_after_run seq job id core = core_after (job_record seq job id core.held) core
+-- this is the record of an entry from below, if its number is the next
+abbrev pub IsNextEntryDeed : List ℕ → ℕ → Entry → PlacedNode → Option Deed → Type 0
+IsNextEntryDeed id k entry n deed = IsAddedRecord (m.Up id k entry) n deed
 
--- the records have one more, that of a job which the minion with this id and this core ran
-abbrev pub AddsRun : ℕ → Job → List ℕ → CoreState → List Deed → List Deed → Type 0
-AddsRun seq job id core before after = after ≡ before ++ job_record seq job id core.held ∷ []
+-- an entry may be the next record of a node
+abbrev pub is_next_entry_at : PlacedNode → List ℕ → Entry → Bool
+is_next_entry_at n id entry = is_next_entry n.fleet.tree n.me n.state.records id entry
 
--- a job that a master can record next: it is later than the last one and within the limits of messages, and there is room for it
-pub record IsJobToRecord (job : Job) (node : NodeState) : Type 0 where
-  pub master : node.minion ≡ false
-  pub later : is_later (jobs node.records) job ≡ true
-  pub few : jobs_held node.records < most_jobs
-  pub fits : JobFits job
-
--- a record of such a job
-abbrev pub IsNextJobRecord : Deed → NodeState → Type 0
-IsNextJobRecord (Publish job) node = IsJobToRecord job node
-IsNextJobRecord (Intake job) node = IsJobToRecord job node
-IsNextJobRecord (Up minion entry) node = ⊥
-IsNextJobRecord (Fire event) node = ⊥
-IsNextJobRecord (React items) node = ⊥
-IsNextJobRecord Boot node = ⊥
-IsNextJobRecord (Done seq changed entries) node = ⊥
-
--- An entry that a master can record next: it is of a minion below, names a job that is held, and is no second return; it is within the
--- limits of messages, and there is room for it.
-pub record IsEntryToRecord (id : List ℕ) (entry : Entry) (n : PlacedNode) : Type 0 where
-  pub master : n.state.minion ≡ false
-  pub below : IsTrue (is_some (place_in (ids_below n.fleet.tree n.me) id))
-  pub named : names_held (jobs_held n.state.records) entry ≡ true
-  pub first : is_first entry (log id n.state.records) ≡ true
-  pub room : length (log id n.state.records) + 1 < 2 ^ 32
-  pub fits : EntryFits entry
+-- the log that a node has of its own id
+abbrev pub own_log : PlacedNode → List Entry
+own_log n = log (id_of n.fleet.tree n.me) n.state.records
 
 -- the publications of the jobs from number known on were added to these messages, up to max messages in all
 abbrev pub AddsJobs : ℕ → ℕ → List Job → List Message → List Message → Type 0

@@ -1,10 +1,11 @@
 //! A node of a fleet, and the calls on it.
-ghost use Rattle.std.specs.Prelude.{◌≡◌, ◌<◌, ◌≤◌, ◌+◌, ◌-◌, ◌==◌, ◌^◌, Option, Some, None, Ok, Err, true, false, not, take, length, All, IfOk, IfErr, IfSome, OnOk, OnErr, IsErrOf, is_none, if◌then◌else◌};
+ghost use Rattle.std.specs.Prelude.{◌≡◌, ◌≢◌, ◌<◌, ◌≤◌, ◌+◌, ◌-◌, ◌==◌, ◌^◌, Option, Some, None, Ok, Err, true, false, not, take, length, All, IfOk, IfErr, IfSome, OnOk, OnErr, IsErrOf, is_none, if◌then◌else◌};
 ghost use Rattle.std.specs.Option.{option_copied};
 ghost use Rattle.fleet_config.specs.Limits.{most_jobs};
 ghost use Rattle.node_core.specs.Index.{IsStoreOf};
-ghost use Rattle.node_core.specs.Publications.{order, PublishesOrder, DeniesOrder};
-ghost use Rattle.node_core.specs.Steps.{IsRunBy, IsRunAnswer, booted_minion, first_stray_at, up_stray_at, Accepts, AcceptsJob, AcceptsEntry, placed_after, after_job, after_run, IsNextJobRecord, IsJobToRecord, IsEntryToRecord, AddsUps};
+ghost use Rattle.node_core.specs.NextRecords.{IsAddedRecord, IsRecordFor, MayAdd, AreRecordsAt, is_next_at, has_log_room_at, placed_after};
+ghost use Rattle.node_core.specs.Publications.{order, PublishesOrder, MakesOrderJob, DeniesOrder};
+ghost use Rattle.node_core.specs.Steps.{IsRunBy, IsRunAnswer, first_stray_at, up_stray_at, raised_at, reply_at, IsNextJobDeed, IsTakenIn, AddsUps};
 ghost use Rattle.minion_core.specs.Faults.{IsRunFault};
 ghost use Rattle.exec_functions.specs.Limits.{AreWithin, no_holdings};
 ghost use Rattle.salt_wire.specs.Limits.{JobFits};
@@ -12,8 +13,10 @@ ghost use Rattle.node_core.specs.declared.faults.PendFault.TheVariants.{NotNeigh
 
 use crate::cores::Core;
 use crate::counts::Counts;
+use crate::history::History;
+use crate::next::is_run;
 use crate::publishing::order_job;
-use crate::recording::{push_deed, push_run};
+use crate::recording::{push_deed, push_done};
 use crate::sending::{push_entries, push_pubs};
 use crate::strays::{
     first_cause, is_below, is_here, is_later, is_neighbour, names_held, place_of, seq_of,
@@ -24,12 +27,15 @@ use exec_functions::Holdings;
 use fleet_config::{Fleet, MOST_JOBS, minions_are_found};
 use job_store::{JobStore, outcomes_by_steps};
 use master_core::{MasterCore, logs_by_steps};
-use minion_core::{MinionCore, RunFault};
+use minion_core::{MinionCore, RunFault, job_record};
 use salt_value::{Jid, MinionId, NodeId, Outcome, Value, Word};
 use salt_wire::{Deed, Entry, Job, Message};
 use std::alloc::{AllocError, Global};
 use std::marker::Model;
 use target_tree::Kind;
+
+/// The most entries of its own log with which a minion starts, or adds more than two entries at once. The limit is this project's own.
+pub const MOST_OWN_ENTRIES: u32 = 2_147_483_648;
 
 /// A node of a fleet: its records, and the counts that it keeps in memory alone. What follows from the records is kept beside them, so
 /// that no call goes through them.
@@ -39,7 +45,7 @@ pub struct Node<'f> {
     fleet: &'f Fleet,
     me: NodeId,
     below: Vec<NodeId>,
-    records: Vec<Deed>,
+    records: History,
     core: Core,
     known_jobs: Counts,
     known_ups: Counts,
@@ -56,48 +62,59 @@ impl<'f> Model for Node<'f> {
 
     ghost coded = { Prim.hlevel (codes, value.the_row.coded, target.the_row.coded) };
 
-    ghost view = { λ n. record { fleet = n.fleet.now; me = n.me; state = record { minion = is_minion_core n.core; records = n.records.items; held = held_in n.core; known_jobs = n.known_jobs; known_ups = n.known_ups } } };
+    ghost view = { λ n. record { fleet = n.fleet.now; me = n.me; state = record { minion = is_minion_core n.core; records = n.records; held = held_in n.core; known_jobs = n.known_jobs; known_ups = n.known_ups } } };
 
-    ghost invariant = { λ n. IsIndex n.fleet.now.tree n.me n.below.items n.records.items n.core };
+    ghost invariant = { λ n. IsIndex n.fleet.now.tree n.me n.below.items n.records n.core };
 }
 
 impl<'f> Node<'f> {
     ghost use Rattle.fleet_config.specs.Tree.{is_minion, minions};
-    ghost use Rattle.node_core.specs.Node.{PlacedNode, starting_node, IsSamePlace, TakesMessage, DeniesMessage, IsApartFrom, holdings_of, pending_for, pending_down, pending_up, runs_next, is_neighbour, may_take, may_record, IsCounted};
+    ghost use Rattle.node_core.specs.Node.{PlacedNode, starting_node, empty_node, IsSamePlace, TakesMessage, DeniesMessage, IsApartFrom, holdings_of, pending_for, pending_down, pending_up, runs_next, is_neighbour, may_take, may_record, IsCounted};
+    ghost use Rattle.node_core.specs.NextRecords.{is_next_job, is_next_run};
+    ghost use Rattle.node_core.specs.Steps.{is_next_entry_at, IsNextEntryDeed, own_log};
     ghost use Rattle.node_core.specs.Records.{jobs, log, jobs_held};
     ghost use Rattle.node_core.specs.Counts.{known_count};
     ghost use Rattle.minion_core.specs.Flat.{return_of, is_first};
     ghost use Rattle.salt_wire.specs.Limits.{Within, EntryFits};
-    ghost use Rattle.salt_wire.specs.declared.deed.Deed.TheVariants.{Publish, Intake, Up, Boot};
+    ghost use Rattle.salt_wire.specs.declared.deed.Deed.TheVariants.{Publish, Up};
 
     /// The node at a place of this fleet as it starts: a minion boots, and a master has no record.
     pub fn start(alloc: Global, fleet: &'f Fleet, me: NodeId) -> Result<Node<'f>, AllocError>
         requires within { me < length fleet.now.tree }
         ensures ok { IfOk result (λ node. node ≡ starting_node fleet.now me) }
     {
+        let mut node = Node::empty(alloc, fleet, me)?;
         if fleet.is_minion(me) {
-            Node::start_minion(alloc, fleet, me)
+            node.add_record(Deed::Boot)?;
+        }
+        Ok(node)
+    }
+
+    /// The node at a place of this fleet without a record, as it stands before its records are read.
+    pub fn empty(alloc: Global, fleet: &'f Fleet, me: NodeId) -> Result<Node<'f>, AllocError>
+        requires within { me < length fleet.now.tree }
+        ensures ok { IfOk result (λ node. node ≡ empty_node fleet.now me) }
+    {
+        if fleet.is_minion(me) {
+            Node::empty_minion(alloc, fleet, me)
         } else {
-            Node::start_master(alloc, fleet, me)
+            Node::empty_master(alloc, fleet, me)
         }
     }
 
-    // A minion that has booted once.
-    fn start_minion(alloc: Global, fleet: &'f Fleet, me: NodeId) -> Result<Node<'f>, AllocError>
+    // A minion without a record.
+    fn empty_minion(alloc: Global, fleet: &'f Fleet, me: NodeId) -> Result<Node<'f>, AllocError>
         requires within { me < length fleet.now.tree }
         requires minion { is_minion fleet.now.tree me ≡ true }
-        ensures ok { IfOk result (λ node. node ≡ starting_node fleet.now me) }
+        ensures ok { IfOk result (λ node. node ≡ empty_node fleet.now me) }
     {
-        let mut records = Vec::new(alloc);
-        records.push(Deed::Boot)?;
-        let mut core = MinionCore::new(alloc, fleet.held(me).copy(alloc)?);
-        core.apply(&Deed::Boot)?;
+        let core = MinionCore::new(alloc, fleet.held(me).copy(alloc)?);
         Ok(Node {
             alloc,
             fleet,
             me,
             below: fleet.minions(alloc, me)?,
-            records,
+            records: History::new(),
             core: Core::Minion(core),
             known_jobs: Counts::new(alloc),
             known_ups: Counts::new(alloc),
@@ -105,10 +122,10 @@ impl<'f> Node<'f> {
     }
 
     // A master without a record.
-    fn start_master(alloc: Global, fleet: &'f Fleet, me: NodeId) -> Result<Node<'f>, AllocError>
+    fn empty_master(alloc: Global, fleet: &'f Fleet, me: NodeId) -> Result<Node<'f>, AllocError>
         requires within { me < length fleet.now.tree }
         requires master { is_minion fleet.now.tree me ≡ false }
-        ensures ok { IfOk result (λ node. node ≡ starting_node fleet.now me) }
+        ensures ok { IfOk result (λ node. node ≡ empty_node fleet.now me) }
     {
         let core = MasterCore::new(alloc, fleet.ids_below(alloc, me)?)?;
         Ok(Node {
@@ -116,7 +133,7 @@ impl<'f> Node<'f> {
             fleet,
             me,
             below: fleet.minions(alloc, me)?,
-            records: Vec::new(alloc),
+            records: History::new(),
             core: Core::Master(core),
             known_jobs: Counts::new(alloc),
             known_ups: Counts::new(alloc),
@@ -150,10 +167,113 @@ impl<'f> Node<'f> {
         ensures err { OnErr result (self.new ≡ self.old) }
         ensures fault { IfErr result (DeniesMessage from message.now self.old) }
     {
+        let deed = self.record_for(from, message)?;
+        Ok(self.take_with(from, message, deed)?)
+    }
+
+    /// The record that a message from another node adds, if any, before the node takes it: so that the record can be kept first. A minion
+    /// runs a job with the next number on what it holds now. The message is stray as for `take`, and nothing changes.
+    pub fn record_for(&self, from: NodeId, message: &Message) -> Result<Option<Deed>, TakeFault>
+        requires counted { IsCounted message.now }
+        requires fits { Within message.now }
+        ensures ok { IfOk result (IsRecordFor from message.now self.now) }
+        ensures fault { IfErr result (DeniesMessage from message.now self.now) }
+    {
         if let Some(cause) = self.first_stray(from, message) {
             return Err(TakeFault::Stray { cause });
         }
-        self.accept(from, message)
+        self.next_deed(from, message)
+    }
+
+    /// Takes a message whose record, if any, is this one, and answers the reply if there is one. After an error the node is as before.
+    pub fn take_with(
+        &mut self,
+        from: NodeId,
+        message: &Message,
+        deed: Option<Deed>,
+    ) -> Result<Option<Message>, AllocError>
+        requires fits { Within message.now }
+        requires record { IsRecordFor from message.now self.old deed }
+        ensures ok { IfOk result (TakesMessage from message.now self.old self.new) }
+        ensures place { IsSamePlace self.old self.new }
+        ensures counted { IfOk result (λ reply. IfSome reply IsCounted) }
+        ensures fits { IfOk result (λ reply. IfSome reply Within) }
+        ensures err { OnErr result (self.new ≡ self.old) }
+    {
+        match deed {
+            Some(deed) => {
+                self.add_record(deed)?;
+                Ok(self.reply(message))
+            }
+            None => {
+                self.raise(from, message)?;
+                Ok(self.reply(message))
+            }
+        }
+    }
+
+    /// Adds a record that may be the next. After an error the node is as before.
+    pub fn add_record(&mut self, deed: Deed) -> Result<(), AllocError>
+        requires next { MayAdd deed self.old }
+        ensures ok { OnOk result (self.new ≡ placed_after deed self.old) }
+        ensures err { OnErr result (self.new ≡ self.old) }
+    {
+        if self.core.is_minion() {
+            self.add_at_minion(&deed)
+        } else {
+            self.add_at_master(deed)
+        }
+    }
+
+    /// Is a record one that the node may add next, by its role and its records? The rule is this project's own: a publication at the top and
+    /// a job from the parent at a syndic are later than the last job, of fewer than `MOST_JOBS`; an entry at a master is of a minion below,
+    /// names a job that is held, and is no second return; a minion adds a start, or the job with the next number, whose entries are events,
+    /// what it shares, and at most one return.
+    pub fn is_next(&self, deed: &Deed) -> bool
+        ensures value { result ≡ is_next_at self.now deed.now }
+    {
+        let is_minion = self.fleet.is_minion(self.me);
+        match deed {
+            Deed::Publish { job } => !is_minion && (self.me.index() == 0 && self.is_next_job(job)),
+            Deed::Intake { job } => {
+                !is_minion && (!(self.me.index() == 0) && self.is_next_job(job))
+            }
+            Deed::Up { minion, entry } => !is_minion && self.is_next_entry(minion, entry),
+            Deed::Fire { .. } => false,
+            Deed::React { .. } => false,
+            Deed::Boot => is_minion,
+            Deed::Done {
+                seq,
+                changed: _,
+                entries,
+            } => is_minion && self.is_next_run(*seq, entries.as_slice()),
+        }
+    }
+
+    /// Is there room in the log to which a record adds? At a master a minion's log has at most 4,294,967,295 entries. A minion starts, or
+    /// adds more than two entries at once, only up to `MOST_OWN_ENTRIES` entries of its own log.
+    pub fn has_room(&self, deed: &Deed) -> bool
+        ensures value { result ≡ has_log_room_at self.now deed.now }
+    {
+        match deed {
+            Deed::Publish { .. } => true,
+            Deed::Intake { .. } => true,
+            Deed::Up { minion, .. } => (self.entries(minion) as u64) + 1 < 4_294_967_296,
+            Deed::Fire { .. } => true,
+            Deed::React { .. } => true,
+            Deed::Boot => self.own_entries() < MOST_OWN_ENTRIES,
+            Deed::Done { entries, .. } => {
+                let count = entries.as_slice().len() as u64;
+                count <= 2 || self.own_entries() as u64 + count <= MOST_OWN_ENTRIES as u64
+            }
+        }
+    }
+
+    /// The law of a node's records: each is one that it may add after those before it, and is within the limits of records.
+    pub fn records_are_right(&self)
+        ensures value { AreRecordsAt self.now.fleet.tree self.now.me self.now.state.records }
+    {
+        let _ = &self.records;
     }
 
     /// What it has for a neighbour, at most `max` messages.
@@ -193,12 +313,33 @@ impl<'f> Node<'f> {
         ensures fault { IfErr result (DeniesOrder moment
             (order kind tgt.now fun.now args.now) self.old) }
     {
+        let job = self.job_for(moment, kind, tgt, fun, args)?;
+        let jid = job.jid;
+        self.add_record(Deed::Publish { job })?;
+        Ok(jid)
+    }
+
+    /// The job that an order makes at the top, before the top records it: so that the record can be kept first. The order is refused as for
+    /// `publish`, and nothing changes.
+    pub fn job_for(
+        &self,
+        moment: u64,
+        kind: Kind,
+        tgt: &str,
+        fun: &Word,
+        args: &[Value],
+    ) -> Result<Job, PublishFault>
+        requires top { self.now.me ≡ 0 }
+        ensures ok { IfOk result (MakesOrderJob moment
+            (order kind tgt.now fun.now args.now) self.now) }
+        ensures next { IfOk result (λ job. MayAdd (Publish job) self.now) }
+        ensures fault { IfErr result (DeniesOrder moment
+            (order kind tgt.now fun.now args.now) self.now) }
+    {
         let _nodes = self.fleet.count();
         let (fleet, jobs) = (self.fleet(), self.jobs());
         let job = order_job(self.alloc, fleet, moment, kind, tgt, fun, args, jobs)?;
-        let jid = job.jid;
-        self.add_publish(job)?;
-        Ok(jid)
+        Ok(job)
     }
 
     /// A master's jobs in order, each within the limits of messages. A minion lists none.
@@ -413,40 +554,23 @@ impl<'f> Node<'f> {
         }
     }
 
-    // Takes a message that passes the first tests.
-    fn accept(&mut self, from: NodeId, message: &Message) -> Result<Option<Message>, TakeFault>
-        requires first { first_stray_at from message.now self.old ≡ None }
+    // The record that a message adds which passes the first tests, if any.
+    fn next_deed(&self, from: NodeId, message: &Message) -> Result<Option<Deed>, TakeFault>
+        requires first { first_stray_at from message.now self.now ≡ None }
         requires counted { IsCounted message.now }
         requires fits { Within message.now }
-        ensures ok { IfOk result (Accepts from message.now self.old self.new) }
-        ensures place { IsSamePlace self.old self.new }
-        ensures counted { IfOk result (λ reply. IfSome reply IsCounted) }
-        ensures fits { IfOk result (λ reply. IfSome reply Within) }
-        ensures err { OnErr result (self.new ≡ self.old) }
-        ensures run { IsRunAnswer result message.now self.old.state }
+        ensures ok { IfOk result (IsAddedRecord message.now self.now) }
+        ensures run { IsRunAnswer result message.now self.now.state }
     {
+        let _ = &self.records;
         match message {
-            Message::Pub { seq, job } => match self.accept_pub(*seq, job) {
-                Ok(have) => Ok(Some(Message::Have { jobs: have })),
+            Message::Pub { seq, job } => match self.job_deed(*seq, job) {
+                Ok(deed) => Ok(deed),
                 Err(fault) => Err(take_fault(fault)),
             },
-            Message::Have { jobs } => {
-                self.known_jobs.raise(from, *jobs)?;
-                Ok(None)
-            }
-            Message::Up { minion, n, entry } => {
-                minions_are_found();
-                let have = self.accept_up(*minion, *n, entry)?;
-                Ok(Some(Message::UpHave {
-                    minion: *minion,
-                    n: have,
-                }))
-            }
-            Message::UpHave { minion, n } => {
-                let place = place_of(self.fleet, minion);
-                self.known_ups.raise(place, *n)?;
-                Ok(None)
-            }
+            Message::Have { .. } => Ok(None),
+            Message::Up { minion, n, entry } => Ok(self.entry_deed(*minion, *n, entry)?),
+            Message::UpHave { .. } => Ok(None),
             Message::Hello { .. } => Ok(None),
             Message::End => Ok(None),
             Message::AskPublish { .. } => Ok(None),
@@ -457,134 +581,163 @@ impl<'f> Node<'f> {
         }
     }
 
-    // A job from the parent, and how many are held then.
-    fn accept_pub(&mut self, seq: u32, job: &Job) -> Result<u32, RunFault>
-        requires may { may_take seq job.now self.old.state ≡ true }
+    // The record of a job from the parent, where its number is the next.
+    fn job_deed(&self, seq: u32, job: &Job) -> Result<Option<Deed>, RunFault>
+        requires may { may_take seq job.now self.now.state ≡ true }
+        requires below { self.now.me ≢ 0 }
         requires fits { JobFits job.now }
-        ensures run { IsRunBy (runs_next seq self.old.state) result job.now.target }
-        ensures ok { IfOk result (AcceptsJob seq job.now self.old self.new) }
-        ensures place { IsSamePlace self.old self.new }
-        ensures err { OnErr result (self.new ≡ self.old) }
+        ensures ok { IfOk result (IsNextJobDeed seq job.now self.now) }
+        ensures run { IsRunBy (runs_next seq self.now.state) result job.now.target }
     {
-        if seq == self.jobs_held() {
-            self.take_in(seq, job)?;
+        if seq != self.jobs_held() {
+            return Ok(None);
         }
-        Ok(self.jobs_held())
+        Ok(Some(self.taken_in(seq, job)?))
     }
 
-    // The record of a job with the next number: a minion runs it first.
-    fn take_in(&mut self, seq: u32, job: &Job) -> Result<(), RunFault>
-        requires may { may_take seq job.now self.old.state ≡ true }
-        requires next { seq ≡ jobs_held self.old.state.records }
+    // The record of a job with the next number: a minion runs it.
+    fn taken_in(&self, seq: u32, job: &Job) -> Result<Deed, RunFault>
+        requires may { may_take seq job.now self.now.state ≡ true }
+        requires below { self.now.me ≢ 0 }
+        requires next { seq ≡ jobs_held self.now.state.records }
         requires fits { JobFits job.now }
-        ensures ok { OnOk result (self.new ≡ after_job seq job.now self.old) }
-        ensures err { OnErr result (self.new ≡ self.old) }
-        ensures run { IsRunBy self.old.state.minion result job.now.target }
+        ensures ok { IfOk result (IsTakenIn seq job.now self.now) }
+        ensures run { IsRunBy self.now.state.minion result job.now.target }
     {
-        if self.core.is_minion() {
-            self.add_done(seq, job)
-        } else {
-            Ok(self.add_intake(job)?)
+        match &self.core {
+            Core::Minion(core) => {
+                let id = self.fleet.id(self.me);
+                Ok(job_record(self.alloc, seq, job, &id, core.held())?)
+            }
+            Core::Master(_) => Ok(Deed::Intake {
+                job: job.copy(self.alloc)?,
+            }),
         }
     }
 
-    // A record of a job that it ran.
-    fn add_done(&mut self, seq: u32, job: &Job) -> Result<(), RunFault>
+    // The record of an entry from below, where its number is the next.
+    fn entry_deed(&self, minion: MinionId, n: u32, entry: &Entry) -> Result<Option<Deed>, AllocError>
+        requires right { n ≡ length (log minion self.now.state.records)
+            → MayAdd (Up minion entry.now) self.now }
+        ensures ok { IfOk result (IsNextEntryDeed minion n entry.now self.now) }
+    {
+        if n != self.entries(&minion) {
+            return Ok(None);
+        }
+        Ok(Some(Deed::Up {
+            minion,
+            entry: entry.copy(self.alloc)?,
+        }))
+    }
+
+    // The counts that a neighbour tells.
+    fn raise(&mut self, from: NodeId, message: &Message) -> Result<(), AllocError>
+        ensures ok { OnOk result (self.new ≡ raised_at from message.now self.old) }
+        ensures err { OnErr result (self.new ≡ self.old) }
+    {
+        match message {
+            Message::Pub { .. } => {}
+            Message::Have { jobs } => self.known_jobs.raise(from, *jobs)?,
+            Message::Up { .. } => {}
+            Message::UpHave { minion, n } => {
+                let place = place_of(self.fleet, minion);
+                self.known_ups.raise(place, *n)?;
+            }
+            Message::Hello { .. } => {}
+            Message::End => {}
+            Message::AskPublish { .. } => {}
+            Message::AskReport { .. } => {}
+            Message::AskJobs => {}
+            Message::AskMine { .. } => {}
+            Message::Answer { .. } => {}
+        }
+        Ok(())
+    }
+
+    // The reply to a message that was taken: how many jobs, or entries, are held now.
+    fn reply(&self, message: &Message) -> Option<Message>
+        requires fits { Within message.now }
+        ensures value { result ≡ reply_at message.now self.now }
+        ensures counted { IfSome result IsCounted }
+        ensures fits { IfSome result Within }
+    {
+        match message {
+            Message::Pub { .. } => Some(Message::Have {
+                jobs: self.jobs_held(),
+            }),
+            Message::Have { .. } => None,
+            Message::Up { minion, .. } => Some(Message::UpHave {
+                minion: *minion,
+                n: self.entries(minion),
+            }),
+            Message::UpHave { .. } => None,
+            Message::Hello { .. } => None,
+            Message::End => None,
+            Message::AskPublish { .. } => None,
+            Message::AskReport { .. } => None,
+            Message::AskJobs => None,
+            Message::AskMine { .. } => None,
+            Message::Answer { .. } => None,
+        }
+    }
+
+    // A record more of a minion.
+    fn add_at_minion(&mut self, deed: &Deed) -> Result<(), AllocError>
         requires minion { self.old.state.minion ≡ true }
-        requires few { jobs_held self.old.state.records < most_jobs }
-        requires fits { JobFits job.now }
-        ensures ok { OnOk result (self.new ≡ after_run seq job.now self.old) }
+        requires next { MayAdd deed.now self.old }
+        ensures ok { OnOk result (self.new ≡ placed_after deed.now self.old) }
         ensures err { OnErr result (self.new ≡ self.old) }
-        ensures fault { IsRunFault result job.now.target }
     {
-        let id = self.fleet.id(self.me);
         let Core::Minion(core) = &mut self.core else {
             unreachable!()
         };
-        push_run(self.alloc, &mut self.records, core, seq, &id, job)?;
+        push_done(&mut self.records, core, deed)?;
         Ok(())
     }
 
-    // A record of a job that is published.
-    fn add_publish(&mut self, job: Job) -> Result<(), AllocError>
-        requires right { IsJobToRecord job self.old.state }
-        ensures ok { OnOk result (self.new ≡ placed_after (Publish job) self.old) }
-        ensures err { OnErr result (self.new ≡ self.old) }
-    {
-        let listed = Deed::Publish {
-            job: job.copy(self.alloc)?,
-        };
-        self.add_job(listed, Deed::Publish { job })
-    }
-
-    // A record of a job that came from the parent.
-    fn add_intake(&mut self, job: &Job) -> Result<(), AllocError>
-        requires right { IsJobToRecord job.now self.old.state }
-        ensures ok { OnOk result (self.new ≡ placed_after (Intake job.now) self.old) }
-        ensures err { OnErr result (self.new ≡ self.old) }
-    {
-        let listed = Deed::Intake {
-            job: job.copy(self.alloc)?,
-        };
-        let deed = Deed::Intake {
-            job: job.copy(self.alloc)?,
-        };
-        self.add_job(listed, deed)
-    }
-
-    // A record that adds a job.
-    fn add_job(&mut self, listed: Deed, deed: Deed) -> Result<(), AllocError>
-        requires same { listed ≡ deed }
-        requires right { IsNextJobRecord deed self.old.state }
+    // A record more of a master.
+    fn add_at_master(&mut self, deed: Deed) -> Result<(), AllocError>
+        requires master { self.old.state.minion ≡ false }
+        requires next { MayAdd deed self.old }
         ensures ok { OnOk result (self.new ≡ placed_after deed self.old) }
         ensures err { OnErr result (self.new ≡ self.old) }
     {
-        outcomes_by_steps();
-        let Core::Master(core) = &mut self.core else {
-            unreachable!()
-        };
-        push_deed(&mut self.records, core, listed, deed)?;
-        Ok(())
-    }
-
-    // An entry from a child, and how many are held then.
-    #[tactic(auto, using(crate::proofs::Takes::up_next))]
-    fn accept_up(&mut self, minion: MinionId, n: u32, entry: &Entry) -> Result<u32, AllocError>
-        requires right { n ≡ length (log minion self.old.state.records)
-            → IsEntryToRecord minion entry.now self.old }
-        ensures ok { IfOk result (AcceptsEntry minion n entry.now self.old self.new) }
-        ensures place { IsSamePlace self.old self.new }
-        ensures err { OnErr result (self.new ≡ self.old) }
-    {
-        let have = self.entries(&minion);
-        if n == have {
-            self.add_up(minion, entry)?;
-            Ok(n + 1)
-        } else {
-            Ok(have)
-        }
-    }
-
-    // A record of an entry from below.
-    fn add_up(&mut self, minion: MinionId, entry: &Entry) -> Result<(), AllocError>
-        requires right { IsEntryToRecord minion entry.now self.old }
-        ensures ok { OnOk result (self.new ≡ placed_after (Up minion entry.now) self.old) }
-        ensures err { OnErr result (self.new ≡ self.old) }
-    {
+        minions_are_found();
         outcomes_by_steps();
         logs_by_steps();
-        let listed = Deed::Up {
-            minion,
-            entry: entry.copy(self.alloc)?,
-        };
-        let deed = Deed::Up {
-            minion,
-            entry: entry.copy(self.alloc)?,
-        };
         let Core::Master(core) = &mut self.core else {
             unreachable!()
         };
-        push_deed(&mut self.records, core, listed, deed)?;
+        push_deed(&mut self.records, core, deed)?;
         Ok(())
+    }
+
+    // May a job be the next of a master?
+    fn is_next_job(&self, job: &Job) -> bool
+        ensures { result ≡ is_next_job self.now.state.records job.now }
+    {
+        is_later(self.jobs(), job) && self.jobs_held() < MOST_JOBS
+    }
+
+    // May an entry be the next of a master?
+    fn is_next_entry(&self, minion: &MinionId, entry: &Entry) -> bool
+        ensures { result ≡ is_next_entry_at self.now minion.now entry.now }
+    {
+        is_here(self.fleet, self.me, minion)
+            && (names_held(self.jobs_held(), entry) && self.is_first(minion, entry))
+    }
+
+    // May a job of this number with these entries be the next of a minion?
+    fn is_next_run(&self, seq: u32, entries: &[Entry]) -> bool
+        ensures { result ≡ is_next_run self.now.state.records seq entries.now }
+    {
+        seq == self.jobs_held() && (seq < MOST_JOBS && is_run(seq, entries))
+    }
+
+    // How many entries the log of the node's own id has.
+    fn own_entries(&self) -> u32
+        ensures { result ≡ length (own_log self.now) }
+    {
+        self.entries(&self.fleet.id(self.me))
     }
 }

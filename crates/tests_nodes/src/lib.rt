@@ -14,6 +14,8 @@ mod orders;
 #[cfg(test)]
 mod readings;
 #[cfg(test)]
+mod records;
+#[cfg(test)]
 mod steps;
 #[cfg(test)]
 mod syndics;

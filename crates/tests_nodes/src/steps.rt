@@ -121,7 +121,8 @@ fn hello(rt: &impl Abort, minion: &str) -> Message
     Message::Hello { id }
 }
 
-fn message(rt: &impl Abort, alloc: Global, sent: Sent) -> Message
+/// The message that is sent.
+pub fn message(rt: &impl Abort, alloc: Global, sent: Sent) -> Message
     ensures value { Within result }
 {
     match sent {
@@ -149,8 +150,8 @@ fn message(rt: &impl Abort, alloc: Global, sent: Sent) -> Message
     }
 }
 
-// Has the message a number that a node takes?
-fn is_counted(message: &Message) -> bool
+/// Has the message a number that a node takes?
+pub fn is_counted(message: &Message) -> bool
     ensures value { OnTrue result (IsCounted message.now) }
 {
     match message {
@@ -159,8 +160,8 @@ fn is_counted(message: &Message) -> bool
     }
 }
 
-// What a message replies.
-fn reply_in(message: &Message) -> Reply {
+/// What a message replies.
+pub fn reply_in(message: &Message) -> Reply {
     match message {
         Message::Have { jobs } => Reply::Jobs(*jobs),
         Message::UpHave { n, .. } => Reply::Entries(*n),
