@@ -1,12 +1,12 @@
 -- The parts of records: what is written is read again, and what is read was written so.
-use Rattle.std.proofs.Common.{◌≡◌, ◌⊎◌, inl, inr, ℕ, zero, suc, ◌<◌, Bool, true, false, cond, eqb, All, List, [], ◌∷◌, ◌++◌, length, map, drop, Option, Some, None, Result, Ok, Err, refl, sym, ap, subst, ◌∙◌, append_assoc, arith}
+use Rattle.std.proofs.Common.{◌≡◌, ◌⊎◌, inl, inr, ℕ, zero, suc, ◌<◌, ◌≤◌, Bool, true, false, cond, eqb, All, List, [], ◌∷◌, ◌++◌, length, map, drop, Option, Some, None, Result, Ok, Err, refl, sym, ap, subst, ◌∙◌, append_assoc, arith, length-append}
 use Rattle.std.specs.Int.{w8, w32, to_be_bytes}
 use Rattle.std.proofs.lemmas.Bool.{eqb-true}
 use Rattle.std.proofs.lemmas.List.{drop_at}
 use Rattle.std.proofs.lemmas.List.Elements.{All-nil, All-cons, All-head, All-tail}
 use Rattle.salt_value.specs.Id.{IsId}
 use Rattle.salt_value.specs.Word.{IsWord}
-use Rattle.salt_value.specs.Readers.{Reader, ◌>>=◌, option_reader, several}
+use Rattle.salt_value.specs.Readers.{Reader, ◌>>=◌, option_reader, several, Fails}
 use Rattle.salt_value.specs.RoundTrips.{AreNumbersRead, AreNumbersWritten, AreValuesRead, AreValuesWritten}
 use Rattle.salt_value.specs.Spelling.{bytes, concatenation}
 use Rattle.salt_value.specs.WellFormed.{ValueFits}
@@ -19,15 +19,17 @@ use Rattle.salt_value.specs.declared.value.Value.TheVariants.{rolls-Map}
 use Rattle.salt_value.specs.declared.value.Value.TheOpen.{Value-F}
 use Rattle.salt_wire.specs.Spelling.{number, id, word, entry, job}
 use Rattle.salt_wire.specs.Limits.{IsNumber, JobFits, EntryFits}
-use Rattle.salt_wire.specs.Decoding.{id_field, word_field, entry_field, job_field, pairs_layer, value_pairs}
-use Rattle.salt_wire.specs.RoundTrip.{Took, IsReadBack}
+use Rattle.salt_wire.specs.Decoding.{id_field, word_field, entry_field, job_field, pairs_layer, value_pairs, body_answer, with_place, field_at}
+use Rattle.salt_wire.specs.RoundTrip.{Took, IsReadBack, Spans}
 use Rattle.salt_wire.specs.declared.fault.Misread.{Misread}
+use Rattle.salt_wire.specs.declared.fault.WireFault.{WireFault}
+use Rattle.salt_wire.specs.declared.fault.WireFault.TheVariants as faults
 use Rattle.salt_wire.proofs.Codec.{bind_ok, ok_is, found_ok, join, one_byte, IsByte, map_bytes, MapFits, byte_is}
 use Rattle.journal_records.specs.declared.fault.RecordFault.{RecordFault}
-use Rattle.journal_records.specs.declared.fault.RecordFault.TheVariants.{NoRecord}
+use Rattle.journal_records.specs.declared.fault.RecordFault.TheVariants.{NoMemory, NoRecord}
 use Rattle.journal_records.specs.Spelling.{counted_bytes, event_bytes}
 use Rattle.journal_records.specs.Limits.{FitsEach, EventFits}
-use Rattle.journal_records.specs.Decoding.{in_record, part, byte_part, number_part, read_value, value_part, fields_part, counted_part, event_part}
+use Rattle.journal_records.specs.Decoding.{in_record, part_fault, part, byte_part, number_part, read_value, value_part, fields_part, counted_part, event_part}
 
 -- a spelling and a reading that undo each other, whatever bytes follow
 pub record Undoes {A : Type 0} (spell : A → List ℕ) (Fits : A → Type 0) (read : Reader RecordFault A) : Type 0 where
@@ -91,6 +93,41 @@ part_undoes spell Fits read law = record {
   written = λ x rest h. ap in_record (law.written x rest h);
   took = λ b x h e. law.took b x h (in_record_ok (read b) x e);
 }
+
+-- what is read at the front of some bytes, with the place after it
+module _ {A : Type 0} (spell : A → List ℕ) (Fits : A → Type 0) (read : Reader Misread A) where
+  pub found_part : IsReadBack spell Fits read → (b : List ℕ) (x : A × ℕ) → Fits x.0 → Spans spell b 0 x → part read b ≡ Ok (x.0, drop x.1 b)
+  unfolding part
+  found_part law b x h s =
+      let rest = s.1.0 in
+      let whole : b ≡ spell x.0 ++ rest = s.1.1 in
+      let size : x.1 ≡ length (spell x.0) = omega (arith, s.0) in
+      let after : rest ≡ drop x.1 b = sym (ap (λ n. drop n b) size ∙ ap (drop (length (spell x.0))) whole ∙ drop_at (spell x.0) rest (length (spell x.0)) refl) in
+      ap in_record (ap read whole ∙ law.written x.0 rest h) ∙ ap (λ (k : List ℕ). Ok (x.0, k)) after
+
+  -- what is read there ends within the bytes
+  pub ends_within : (b : List ℕ) (x : A × ℕ) → Spans spell b 0 x → x.1 ≤ length b
+  ends_within b x s =
+      let whole : b ≡ spell x.0 ++ s.1.0 = s.1.1 in
+      omega (arith, s.0, ap length whole, length-append (spell x.0) s.1.0)
+
+  pub no_part : (b : List ℕ) (e : WireFault) → field_at read b 0 ≡ Err e → part read b ≡ Err NoRecord
+  unfolding part field_at
+  no_part b e h = by (read b) h where
+    by : (r : Result (A × List ℕ) Misread) → body_answer (length b) (r >>= λ x. Ok (with_place (length b) x)) ≡ Err e → in_record r ≡ Err NoRecord
+    by (Ok x) h = absurd cc
+    by (Err f) h = refl
+
+  pub fails_so : (b : List ℕ) (e : WireFault) → Fails faults.NoMemory e (field_at read b 0) → Fails NoMemory (part_fault e) (part read b)
+  fails_so b faults.NoMemory h = inl refl
+  fails_so b faults.BadVersion (inl p) = absurd cc
+  fails_so b faults.BadVersion (inr p) = inr (no_part b _ p)
+  fails_so b faults.BadKind (inl p) = absurd cc
+  fails_so b faults.BadKind (inr p) = inr (no_part b _ p)
+  fails_so b (faults.BadField at) (inl p) = absurd cc
+  fails_so b (faults.BadField at) (inr p) = inr (no_part b _ p)
+  fails_so b (faults.Trailing at) (inl p) = absurd cc
+  fails_so b (faults.Trailing at) (inr p) = inr (no_part b _ p)
 
 -- ---- things one after the other
 

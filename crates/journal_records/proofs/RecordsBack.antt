@@ -3,7 +3,8 @@ use Rattle.std.proofs.Common.{◌≡◌, inl, inr, ℕ, Bool, true, false, cond,
 use Rattle.std.proofs.lemmas.Bool.{eqb-true}
 use Rattle.std.proofs.lemmas.List.{append-nil}
 use Rattle.salt_value.specs.Id.{IsId}
-use Rattle.salt_value.specs.Readers.{◌>>=◌}
+use Rattle.salt_value.specs.Readers.{◌>>=◌, Fails}
+use Rattle.salt_value.specs.Reading.{Decodes}
 use Rattle.salt_value.specs.Decoding.{IsBytes}
 use Rattle.salt_wire.specs.Spelling.{number, id, entry, job}
 use Rattle.salt_wire.specs.Limits.{IsNumber, JobFits, EntryFits}
@@ -16,7 +17,7 @@ use Rattle.salt_wire.specs.declared.deed.Deed.{Deed}
 use Rattle.salt_wire.specs.declared.deed.Deed.TheVariants as d
 use Rattle.salt_wire.proofs.Codec.{bind_ok, ok_is, join, one_byte, IsByte, map_bytes, MapFits}
 use Rattle.journal_records.specs.declared.fault.RecordFault.{RecordFault}
-use Rattle.journal_records.specs.declared.fault.RecordFault.TheVariants.{NoRecord}
+use Rattle.journal_records.specs.declared.fault.RecordFault.TheVariants.{NoMemory, NoRecord}
 use Rattle.journal_records.specs.Spelling.{event_bytes, react_bytes, reacts_bytes, entries_bytes, holdings_bytes, changed_bytes, record_bytes}
 use Rattle.journal_records.specs.Limits.{FitsEach, EventFits, ReactFits, HoldingsFit, ChangedFits, RecordFits}
 use Rattle.journal_records.specs.Decoding.{part, byte_part, number_part, fields_part, counted_part, event_part, react_job_part, refused_part, react_after, react_part, holdings_part, some_change, changed_after, changed_part, publish_fields, entry_up_fields, fire_fields, react_fields, intake_fields, done_fields, record_after, record_part, alone, whole_record, AreRecordsRead, AreRecordsWritten}
@@ -255,3 +256,27 @@ module _ (l : Below) where
       let t = record_took b a.0 h a.1 in
       let parts : b ≡ record_bytes a.0.0 = t.1 ∙ ap (λ (k : List ℕ). record_bytes a.0.0 ++ k) n.1 ∙ append-nil (record_bytes a.0.0) in
       subst (λ (y : Deed). RecordFits y × (b ≡ record_bytes y)) n.0 (t.0, parts)
+
+-- ---- what reading answers
+
+module _ (read : AreRecordsRead) (written : AreRecordsWritten) (b : List ℕ) where
+  of_spelling : (x : Deed) → RecordFits x → b ≡ record_bytes x → whole_record b ≡ Ok x
+  of_spelling x fits e = ap whole_record e ∙ read x fits
+
+  pub one_decodes : (x : Deed) → IsBytes b → whole_record b ≡ Ok x → Decodes RecordFits record_bytes b (Some x)
+  one_decodes x h e =
+      let t = written b x h e in
+      (t.0, sym t.1, λ y fits same. ok_is y x (sym (of_spelling y fits (sym same)) ∙ e))
+
+  fails_not : (x : Deed) → whole_record b ≡ Ok x → Fails NoMemory NoRecord (whole_record b) → ⊥
+  fails_not x e (inl p) = absurd cc
+  fails_not x e (inr q) = absurd cc
+
+  pub none_decodes : Fails NoMemory NoRecord (whole_record b) → Decodes RecordFits record_bytes b None
+  none_decodes h = λ y fits same. fails_not y (of_spelling y fits (sym same)) h
+
+  pub one_answers : (x : Deed) → whole_record b ≡ Ok x → (y : Deed) → RecordFits y → b ≡ record_bytes y → ◌≡◌ {A = Option Deed} (Some x) (Some y)
+  one_answers x e y fits same = ap Some (ok_is x y (sym e ∙ of_spelling y fits same))
+
+  pub none_answers : Fails NoMemory NoRecord (whole_record b) → (y : Deed) → RecordFits y → b ≡ record_bytes y → ◌≡◌ {A = Option Deed} None (Some y)
+  none_answers h y fits same = absurd (fails_not y (of_spelling y fits same) h)

@@ -9,6 +9,8 @@ use Rattle.salt_value.specs.declared.fault.ValueFault.{ValueFault}
 use Rattle.salt_value.specs.declared.value.Value.{Value}
 use Rattle.salt_wire.specs.Decoding.{id_field, word_field, entry_field, job_field, value_pairs}
 use Rattle.salt_wire.specs.declared.fault.Misread.{Misread}
+use Rattle.salt_wire.specs.declared.fault.WireFault.{WireFault}
+use Rattle.salt_wire.specs.declared.fault.WireFault.TheVariants as faults
 use Rattle.salt_wire.specs.declared.deed.Changed.{Changed}
 use Rattle.salt_wire.specs.declared.deed.ReactDeed.{ReactDeed}
 use Rattle.salt_wire.specs.declared.deed.ReactDeed.TheVariants as r
@@ -26,6 +28,11 @@ abbrev pub GivesPart : {A : Type 0} → Result (A × Bor (List ℕ)) RecordFault
 GivesPart result read = Gives NoMemory (λ x. (x.0, x.1.now)) result read
 
 -- ---- parts of messages, numbers and values, with the one fault of records
+
+-- a fault of a message's field as one of a record. No public contract cites it.
+abbrev pub part_fault : WireFault → RecordFault
+part_fault faults.NoMemory = NoMemory
+part_fault other = NoRecord
 
 -- what a reader of messages gave. No public contract cites it.
 abbrev pub in_record : {A : Type 0} → Result A Misread → Result A RecordFault

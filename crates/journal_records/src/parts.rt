@@ -13,6 +13,16 @@ use std::alloc::Global;
 // What stands at the front of some bytes, and the bytes after it.
 pub type Parsed<'a, T> = Result<(T, &'a [u8]), RecordFault>;
 
+// A fault of a message's field as one of a record.
+fn part_fault(fault: WireFault) -> RecordFault
+    ensures { result ≡ spec.part_fault fault }
+{
+    match fault {
+        WireFault::NoMemory => RecordFault::NoMemory,
+        _ => RecordFault::NoRecord,
+    }
+}
+
 // A byte.
 pub fn byte_at(bytes: &[u8]) -> Parsed<'_, u8>
     ensures { GivesPart result (spec.byte_part bytes.now) }
@@ -28,53 +38,46 @@ pub fn number_at(bytes: &[u8]) -> Parsed<'_, u32>
 }
 
 // An id.
-#[tactic(auto, unfolding(crate::specs::Decoding::part))]
 pub fn id_at(bytes: &[u8]) -> Parsed<'_, MinionId>
     ensures { GivesPart result (part id_field bytes.now) }
 {
     messages_read_back();
     match read_id(bytes, 0) {
         Ok((id, taken)) => Ok((id, &bytes[taken..])),
-        Err(_) => Err(RecordFault::NoRecord),
+        Err(fault) => Err(part_fault(fault)),
     }
 }
 
 // A word.
-#[tactic(auto, unfolding(crate::specs::Decoding::part))]
 pub fn word_at(alloc: Global, bytes: &[u8]) -> Parsed<'_, Word>
     ensures { GivesPart result (part word_field bytes.now) }
 {
     messages_read_back();
     match read_word(alloc, bytes, 0) {
         Ok((word, taken)) => Ok((word, &bytes[taken..])),
-        Err(WireFault::NoMemory) => Err(RecordFault::NoMemory),
-        Err(_) => Err(RecordFault::NoRecord),
+        Err(fault) => Err(part_fault(fault)),
     }
 }
 
 // An entry.
-#[tactic(auto, unfolding(crate::specs::Decoding::part))]
 pub fn entry_at(alloc: Global, bytes: &[u8]) -> Parsed<'_, Entry>
     ensures { GivesPart result (part entry_field bytes.now) }
 {
     messages_read_back();
     match read_entry(alloc, bytes, 0) {
         Ok((entry, taken)) => Ok((entry, &bytes[taken..])),
-        Err(WireFault::NoMemory) => Err(RecordFault::NoMemory),
-        Err(_) => Err(RecordFault::NoRecord),
+        Err(fault) => Err(part_fault(fault)),
     }
 }
 
 // A job.
-#[tactic(auto, unfolding(crate::specs::Decoding::part))]
 pub fn job_at(alloc: Global, bytes: &[u8]) -> Parsed<'_, Job>
     ensures { GivesPart result (part job_field bytes.now) }
 {
     messages_read_back();
     match read_job(alloc, bytes, 0) {
         Ok((job, taken)) => Ok((job, &bytes[taken..])),
-        Err(WireFault::NoMemory) => Err(RecordFault::NoMemory),
-        Err(_) => Err(RecordFault::NoRecord),
+        Err(fault) => Err(part_fault(fault)),
     }
 }
 

@@ -17,7 +17,10 @@ fn some_entries(alloc: Global, count: u32, bytes: &[u8]) -> Parsed<'_, Entries>
     let mut entries = Entries::new(alloc);
     let mut rest = bytes;
     for _ in 0..count {
-        let (entry, after) = entry_at(alloc, rest)?;
+        let (entry, after) = match entry_at(alloc, rest) {
+            Ok(found) => found,
+            Err(fault) => return Err(fault),
+        };
         entries.push(entry)?;
         rest = after;
     }
@@ -77,7 +80,10 @@ fn some_reacts(alloc: Global, count: u32, bytes: &[u8]) -> Parsed<'_, ReactDeeds
     let mut items = ReactDeeds::new(alloc);
     let mut rest = bytes;
     for _ in 0..count {
-        let (item, after) = react_at(alloc, rest)?;
+        let (item, after) = match react_at(alloc, rest) {
+            Ok(found) => found,
+            Err(fault) => return Err(fault),
+        };
         items.push(item)?;
         rest = after;
     }
