@@ -67,9 +67,12 @@ module _ (l : Below) where
 
   react_written : (x : ReactDeed) (rest : List ℕ) → ReactFits x → react_part (react_bytes x ++ rest) ≡ Ok (x, rest)
   unfolding react_part react_after react_job_part refused_part
-  react_written (r.Job j) rest h = again_last job JobFits (part job_field) jobs _ j rest h
+  react_written (r.Job j) rest h =
+      again one_byte IsByte byte_part (a_byte l) _ 1 (job j) rest (omega arith)
+      ∙ again_last job JobFits (part job_field) jobs _ j rest h
   react_written (r.Refused sls cause) rest h =
-      again id IsId (part id_field) ids _ sls (one_byte cause) rest h.0
+      again one_byte IsByte byte_part (a_byte l) _ 2 (id sls ++ one_byte cause) rest (omega arith)
+      ∙ again id IsId (part id_field) ids _ sls (one_byte cause) rest h.0
       ∙ again_last one_byte IsByte byte_part (a_byte l) _ cause rest h.1
 
   react_took : (b : List ℕ) (x : ReactDeed × List ℕ) → IsBytes b → react_part b ≡ Ok x → Took react_bytes ReactFits b x
@@ -116,8 +119,10 @@ module _ (l : Below) where
 
   changed_written : (x : Option Changed) (rest : List ℕ) → ChangedFits x → changed_part (changed_bytes x ++ rest) ≡ Ok (x, rest)
   unfolding changed_part changed_after some_change
-  changed_written None rest h = refl
-  changed_written (Some c) rest h = again_last holdings_bytes HoldingsFit holdings_part holdings _ c rest h
+  changed_written None rest h = again_last one_byte IsByte byte_part (a_byte l) _ 0 rest (omega arith)
+  changed_written (Some c) rest h =
+      again one_byte IsByte byte_part (a_byte l) _ 1 (holdings_bytes c) rest (omega arith)
+      ∙ again_last holdings_bytes HoldingsFit holdings_part holdings _ c rest h
 
   changed_took : (b : List ℕ) (x : Option Changed × List ℕ) → IsBytes b → changed_part b ≡ Ok x → Took changed_bytes ChangedFits b x
   unfolding changed_part
@@ -217,16 +222,26 @@ module _ (l : Below) where
 
   record_written : (x : Deed) (rest : List ℕ) → RecordFits x → record_part (record_bytes x ++ rest) ≡ Ok (x, rest)
   unfolding record_part record_after publish_fields entry_up_fields fire_fields react_fields intake_fields done_fields
-  record_written (d.Publish j) rest h = again_last job JobFits (part job_field) jobs _ j rest h
+  record_written (d.Publish j) rest h =
+      again one_byte IsByte byte_part (a_byte l) _ 1 (job j) rest (omega arith)
+      ∙ again_last job JobFits (part job_field) jobs _ j rest h
   record_written (d.Up minion en) rest h =
-      again id IsId (part id_field) ids _ minion (entry en) rest h.0
+      again one_byte IsByte byte_part (a_byte l) _ 2 (id minion ++ entry en) rest (omega arith)
+      ∙ again id IsId (part id_field) ids _ minion (entry en) rest h.0
       ∙ again_last entry EntryFits (part entry_field) some_entries _ en rest h.1
-  record_written (d.Fire event) rest h = again_last event_bytes EventFits event_part (events l) _ event rest h
-  record_written (d.React items) rest h = again_last reacts_bytes (FitsEach ReactFits) (counted_part react_part) all_reacts _ items rest h
-  record_written (d.Intake j) rest h = again_last job JobFits (part job_field) jobs _ j rest h
-  record_written d.Boot rest h = refl
+  record_written (d.Fire event) rest h =
+      again one_byte IsByte byte_part (a_byte l) _ 3 (event_bytes event) rest (omega arith)
+      ∙ again_last event_bytes EventFits event_part (events l) _ event rest h
+  record_written (d.React items) rest h =
+      again one_byte IsByte byte_part (a_byte l) _ 4 (reacts_bytes items) rest (omega arith)
+      ∙ again_last reacts_bytes (FitsEach ReactFits) (counted_part react_part) all_reacts _ items rest h
+  record_written (d.Intake j) rest h =
+      again one_byte IsByte byte_part (a_byte l) _ 5 (job j) rest (omega arith)
+      ∙ again_last job JobFits (part job_field) jobs _ j rest h
+  record_written d.Boot rest h = again_last one_byte IsByte byte_part (a_byte l) _ 6 rest (omega arith)
   record_written (d.Done seq changed en) rest h =
-      again number IsNumber number_part (numbers l) _ seq (changed_bytes changed ++ entries_bytes en) rest h.0
+      again one_byte IsByte byte_part (a_byte l) _ 7 (number seq ++ (changed_bytes changed ++ entries_bytes en)) rest (omega arith)
+      ∙ again number IsNumber number_part (numbers l) _ seq (changed_bytes changed ++ entries_bytes en) rest h.0
       ∙ again changed_bytes ChangedFits changed_part changes _ changed (entries_bytes en) rest h.1
       ∙ again_last entries_bytes (FitsEach EntryFits) (counted_part (part entry_field)) all_entries _ en rest h.2
 

@@ -1,4 +1,5 @@
 //! The parts of records read from bytes.
+ghost use Rattle.std.specs.Prelude.{◌≡◌};
 ghost use Rattle.salt_wire.specs.Decoding.{id_field, word_field, entry_field, job_field};
 ghost use Rattle.journal_records.specs.Decoding as spec;
 ghost use Rattle.journal_records.specs.Decoding.{GivesPart, part};
@@ -131,6 +132,15 @@ fn holdings_at(alloc: Global, bytes: &[u8]) -> Parsed<'_, Changed>
     Ok((changed, rest))
 }
 
+// A change that there is.
+#[tactic(auto, unfolding(crate::specs::Decoding::some_change))]
+fn some_change_at(alloc: Global, bytes: &[u8]) -> Parsed<'_, Option<Changed>>
+    ensures { GivesPart result (spec.some_change bytes.now) }
+{
+    let (changed, rest) = holdings_at(alloc, bytes)?;
+    Ok((Some(changed), rest))
+}
+
 // What stands after the byte that tells whether there is a change.
 #[tactic(auto, unfolding(crate::specs::Decoding::changed_after))]
 fn changed_after(alloc: Global, tag: u8, bytes: &[u8]) -> Parsed<'_, Option<Changed>>
@@ -138,10 +148,7 @@ fn changed_after(alloc: Global, tag: u8, bytes: &[u8]) -> Parsed<'_, Option<Chan
 {
     match tag {
         0x00 => Ok((None, bytes)),
-        0x01 => {
-            let (changed, rest) = holdings_at(alloc, bytes)?;
-            Ok((Some(changed), rest))
-        }
+        0x01 => some_change_at(alloc, bytes),
         _ => Err(RecordFault::NoRecord),
     }
 }

@@ -36,6 +36,15 @@ fn entries_at(alloc: Global, bytes: &[u8]) -> Parsed<'_, Entries>
     some_entries(alloc, count, rest)
 }
 
+// A job that a reaction gave.
+#[tactic(auto, unfolding(crate::specs::Decoding::react_job_part))]
+fn react_job_at(alloc: Global, bytes: &[u8]) -> Parsed<'_, ReactDeed>
+    ensures { GivesPart result (spec.react_job_part bytes.now) }
+{
+    let (job, rest) = job_at(alloc, bytes)?;
+    Ok((ReactDeed::Job(job), rest))
+}
+
 // A refused reaction.
 #[tactic(auto, unfolding(crate::specs::Decoding::refused_part))]
 fn refused_at(bytes: &[u8]) -> Parsed<'_, ReactDeed>
@@ -55,10 +64,7 @@ fn react_after(alloc: Global, tag: u8, bytes: &[u8]) -> Parsed<'_, ReactDeed>
     ensures { GivesPart result (spec.react_after tag bytes.now) }
 {
     match tag {
-        0x01 => {
-            let (job, rest) = job_at(alloc, bytes)?;
-            Ok((ReactDeed::Job(job), rest))
-        }
+        0x01 => react_job_at(alloc, bytes),
         0x02 => refused_at(bytes),
         _ => Err(RecordFault::NoRecord),
     }

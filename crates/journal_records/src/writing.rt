@@ -3,7 +3,7 @@ ghost use Rattle.std.specs.Prelude.{◌≡◌, ◌<◌, ◌^◌, ◌++◌, ◌�
 ghost use Rattle.salt_value.specs.Spelling.{bytes};
 ghost use Rattle.salt_value.specs.WellFormed.{ValueFits};
 ghost use Rattle.salt_value.specs.declared.value.Value.TheVariants as v;
-ghost use Rattle.salt_wire.specs.Limits.{EntryFits};
+ghost use Rattle.salt_wire.specs.Limits.{JobFits, EntryFits};
 ghost use Rattle.salt_wire.specs.Spelling as wire;
 ghost use Rattle.journal_records.specs.Spelling as spelling;
 ghost use Rattle.journal_records.specs.Limits.{EventFits, ReactFits, HoldingsFit, ChangedFits, FitsEach, RecordFits};
@@ -12,7 +12,7 @@ ghost use Rattle.salt_wire.specs.declared.deed.Deed.TheVariants as d;
 
 use salt_value::{Event, Text, Value, put_text, put_u32};
 use salt_wire::{
-    Changed, Deed, Entry, ReactDeed, write_entry, write_id, write_job, write_word,
+    Changed, Deed, Entry, Job, ReactDeed, write_entry, write_id, write_job, write_word,
 };
 use std::alloc::AllocError;
 
@@ -47,16 +47,23 @@ fn put_event(out: &mut Vec<u8>, event: &Event) -> Result<(), AllocError>
     event.body.write(out)
 }
 
+// A code and a job.
+fn put_coded_job(out: &mut Vec<u8>, code: u8, job: &Job) -> Result<(), AllocError>
+    requires { JobFits job.now }
+    ensures { OnOk result (out.new.items ≡ out.old.items ++ code ∷ wire.job job.now) }
+{
+    out.push(code)?;
+    write_job(job, out)?;
+    Ok(())
+}
+
 // What a reaction gave.
 fn put_react(out: &mut Vec<u8>, item: &ReactDeed) -> Result<(), AllocError>
     requires { ReactFits item.now }
     ensures { OnOk result (out.new.items ≡ out.old.items ++ spelling.react_bytes item.now) }
 {
     match item {
-        ReactDeed::Job(job) => {
-            out.push(0x01)?;
-            write_job(job, out)?;
-        }
+        ReactDeed::Job(job) => put_coded_job(out, 0x01, job)?,
         ReactDeed::Refused { sls, cause } => {
             out.push(0x02)?;
             write_id(sls, out)?;
@@ -137,10 +144,7 @@ pub fn put_deed(out: &mut Vec<u8>, deed: &Deed) -> Result<(), AllocError>
     ensures { OnOk result (out.new.items ≡ out.old.items ++ record_bytes deed.now) }
 {
     match deed {
-        Deed::Publish { job } => {
-            out.push(0x01)?;
-            write_job(job, out)?;
-        }
+        Deed::Publish { job } => put_coded_job(out, 0x01, job)?,
         Deed::Up { minion, entry } => {
             out.push(0x02)?;
             write_id(minion, out)?;
@@ -154,10 +158,7 @@ pub fn put_deed(out: &mut Vec<u8>, deed: &Deed) -> Result<(), AllocError>
             out.push(0x04)?;
             put_reacts(out, items.as_slice())?;
         }
-        Deed::Intake { job } => {
-            out.push(0x05)?;
-            write_job(job, out)?;
-        }
+        Deed::Intake { job } => put_coded_job(out, 0x05, job)?,
         Deed::Boot => out.push(0x06)?,
         Deed::Done {
             seq,
