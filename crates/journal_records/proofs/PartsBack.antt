@@ -1,8 +1,8 @@
 -- The parts of records: what is written is read again, and what is read was written so.
-use Rattle.std.proofs.Common.{◌≡◌, ◌⊎◌, inl, inr, ℕ, zero, suc, ◌<◌, ◌≤◌, Bool, true, false, cond, eqb, All, List, [], ◌∷◌, ◌++◌, length, map, drop, Option, Some, None, Result, Ok, Err, refl, sym, ap, subst, ◌∙◌, append_assoc, arith, length-append}
+use Rattle.std.proofs.Common.{◌≡◌, ◌⊎◌, inl, inr, ℕ, zero, suc, ◌<◌, ◌-◌, Bool, true, false, cond, eqb, All, List, [], ◌∷◌, ◌++◌, length, map, take, drop, Option, Some, None, Result, Ok, Err, refl, sym, ap, subst, ◌∙◌, append_assoc, arith, length-drop}
 use Rattle.std.specs.Int.{w8, w32, to_be_bytes}
 use Rattle.std.proofs.lemmas.Bool.{eqb-true}
-use Rattle.std.proofs.lemmas.List.{drop_at}
+use Rattle.std.proofs.lemmas.List.{drop_at, take_all}
 use Rattle.std.proofs.lemmas.List.Elements.{All-nil, All-cons, All-head, All-tail}
 use Rattle.salt_value.specs.Id.{IsId}
 use Rattle.salt_value.specs.Word.{IsWord}
@@ -96,20 +96,16 @@ part_undoes spell Fits read law = record {
 
 -- what is read at the front of some bytes, with the place after it
 module _ {A : Type 0} (spell : A → List ℕ) (Fits : A → Type 0) (read : Reader Misread A) where
-  pub found_part : IsReadBack spell Fits read → (b : List ℕ) (x : A × ℕ) → Fits x.0 → Spans spell b 0 x → part read b ≡ Ok (x.0, drop x.1 b)
+  pub found_part : IsReadBack spell Fits read → (b : List ℕ) (x : A × ℕ) → Fits x.0 × Spans spell b 0 x → part read b ≡ Ok (x.0, take (length b - x.1) (drop x.1 b))
   unfolding part
-  found_part law b x h s =
+  found_part law b x (h, s) =
       let rest = s.1.0 in
       let whole : b ≡ spell x.0 ++ rest = s.1.1 in
       let size : x.1 ≡ length (spell x.0) = omega (arith, s.0) in
-      let after : rest ≡ drop x.1 b = sym (ap (λ n. drop n b) size ∙ ap (drop (length (spell x.0))) whole ∙ drop_at (spell x.0) rest (length (spell x.0)) refl) in
+      let dropped : drop x.1 b ≡ rest = ap (λ n. drop n b) size ∙ ap (drop (length (spell x.0))) whole ∙ drop_at (spell x.0) rest (length (spell x.0)) refl in
+      let all : take (length b - x.1) (drop x.1 b) ≡ drop x.1 b = take_all (length b - x.1) (drop x.1 b) (omega (arith, length-drop x.1 b)) in
+      let after : rest ≡ take (length b - x.1) (drop x.1 b) = sym (all ∙ dropped) in
       ap in_record (ap read whole ∙ law.written x.0 rest h) ∙ ap (λ (k : List ℕ). Ok (x.0, k)) after
-
-  -- what is read there ends within the bytes
-  pub ends_within : (b : List ℕ) (x : A × ℕ) → Spans spell b 0 x → x.1 ≤ length b
-  ends_within b x s =
-      let whole : b ≡ spell x.0 ++ s.1.0 = s.1.1 in
-      omega (arith, s.0, ap length whole, length-append (spell x.0) s.1.0)
 
   pub no_part : (b : List ℕ) (e : WireFault) → field_at read b 0 ≡ Err e → part read b ≡ Err NoRecord
   unfolding part field_at

@@ -44,7 +44,7 @@ pub fn id_at(bytes: &[u8]) -> Parsed<'_, MinionId>
 {
     messages_read_back();
     match read_id(bytes, 0) {
-        Ok((id, taken)) => Ok((id, &bytes[taken..])),
+        Ok(found) => Ok((found.0, &bytes[found.1..])),
         Err(fault) => Err(part_fault(fault)),
     }
 }

@@ -12,7 +12,10 @@ static RECORDS: [(u8, &'static [u8]); 14] = [
         b"\x01\x00\x06\x0a$\x18\x1e@\x00\x01\x00\x00\x00\x01*\x01\x00\x00\x00\x01*\x00\x09test.ping\x05\x00\x00\x00\x00",
     ),
     (2, b"\x02\x02m1\x03\x00\x00\x00\x02"),
-    (2, b"\x02\x02m1\x01\x00\x00\x00\x04\x02\x04\x00\x00\x00\x02ok"),
+    (
+        2,
+        b"\x02\x02m1\x01\x00\x00\x00\x04\x02\x04\x00\x00\x00\x02ok",
+    ),
     (2, b"\x02\x02m1\x02\x00\x03a/b\x02"),
     (
         2,
@@ -237,6 +240,10 @@ fn is_long_record(alloc: Global, long: &Long) -> Result<bool, AllocError> {
 #[test]
 fn fields_of_records_have_limits(rt: HostRuntime) {
     for (i, long) in LONG.iter().enumerate() {
-        assert_eq!(rt; is_long_record(rt.alloc(), long), Ok(long.is_record), "row {i}");
+        assert_eq!(rt;
+            is_long_record(rt.alloc(), long),
+            Ok(long.is_record),
+            "row {i}"
+        );
     }
 }
