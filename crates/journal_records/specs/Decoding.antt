@@ -1,5 +1,5 @@
 -- Decoding from left to right, as a function: what stands at the front of some bytes, and the bytes after it. No public contract cites it.
-use Rattle.std.specs.Prelude.{◌≡◌, ℕ, ◌==◌, if◌then◌else◌, List, [], length, drop, Option, Some, None, Result, Ok, Err}
+use Rattle.std.specs.Prelude.{◌≡◌, ℕ, ◌==◌, if◌then◌else◌, List, length, drop, Option, Some, None, Result, Ok, Err}
 use Rattle.std.specs.Borrow.{Bor}
 use Rattle.std.specs.Int.{w8, w32}
 use Rattle.salt_value.specs.Readers.{Reader, ◌>>=◌, option_reader, several, Gives}

@@ -1,5 +1,5 @@
 -- Which records have bytes, by cases on what a node did.
-use Rattle.std.specs.Prelude.{◌<◌, ℕ, All, List, length, Option, Some, None}
+use Rattle.std.specs.Prelude.{◌<◌, All, List, length, Option, Some, None}
 use Rattle.salt_value.specs.Id.{IsId}
 use Rattle.salt_value.specs.Word.{IsWord}
 use Rattle.salt_value.specs.WellFormed.{ValueFits}

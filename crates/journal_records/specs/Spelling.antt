@@ -1,8 +1,7 @@
 -- The bytes of each record, by cases on what a node did.
-use Rattle.std.specs.Prelude.{ℕ, List, [], ◌∷◌, ◌++◌, length, map, Option, Some, None}
+use Rattle.std.specs.Prelude.{◌≡◌, ℕ, List, [], ◌∷◌, ◌++◌, length, map, Option, Some, None}
 use Rattle.salt_value.specs.Spelling.{bytes, concatenation}
 use Rattle.salt_value.specs.declared.event.Event.{Event}
-use Rattle.salt_value.specs.declared.value.Value.{Value}
 use Rattle.salt_value.specs.declared.value.Value.TheVariants as v
 use Rattle.salt_wire.specs.Spelling as wire
 use Rattle.salt_wire.specs.declared.message.Entry.{Entry}
@@ -53,3 +52,7 @@ record_bytes (d.React items) = record_code code.React ∷ reacts_bytes items
 record_bytes (d.Intake job) = record_code code.Intake ∷ wire.job job
 record_bytes d.Boot = record_code code.Boot ∷ []
 record_bytes (d.Done seq changed entries) = record_code code.Done ∷ (wire.number seq ++ (changed_bytes changed ++ entries_bytes entries))
+
+-- what a minion did of a job stands behind what was there. No public contract cites it.
+abbrev pub AddsDone : ℕ → Option Changed → List Entry → List ℕ → List ℕ → Type 0
+AddsDone seq changed entries old new = new ≡ old ++ record_bytes (d.Done seq changed entries)

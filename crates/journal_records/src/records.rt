@@ -26,7 +26,7 @@ pub fn write_record(alloc: Global, deed: &Deed) -> Result<Vec<u8>, AllocError>
 /// What a node did by the bytes of its record; `None` where the bytes are those of no record whose
 /// fields are within their limits.
 pub fn read_record(alloc: Global, bytes: &[u8]) -> Result<Option<Deed>, AllocError>
-    // What is read is within its limits and has these bytes, and it alone; none only where nothing has them.
+    // What is read is within its limits and it alone has these bytes; none where nothing has them.
     ensures ok { IfOk result (Decodes RecordFits record_bytes bytes.now) }
     // A record within its limits that has these bytes is read, unless memory runs out.
     ensures complete { AnswersRecord bytes.now result }

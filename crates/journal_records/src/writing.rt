@@ -7,7 +7,7 @@ ghost use Rattle.salt_wire.specs.Limits.{JobFits, EntryFits};
 ghost use Rattle.salt_wire.specs.Spelling as wire;
 ghost use Rattle.journal_records.specs.Spelling as spelling;
 ghost use Rattle.journal_records.specs.Limits.{EventFits, ReactFits, HoldingsFit, ChangedFits, FitsEach, RecordFits};
-ghost use Rattle.journal_records.specs.Spelling.{record_bytes};
+ghost use Rattle.journal_records.specs.Spelling.{record_bytes, AddsDone};
 ghost use Rattle.salt_wire.specs.declared.deed.Deed.TheVariants as d;
 
 use salt_value::{Event, Text, Value, put_text, put_u32};
@@ -130,7 +130,7 @@ fn put_done(
     entries: &[Entry],
 ) -> Result<(), AllocError>
     requires { RecordFits (d.Done seq changed.now entries.now) }
-    ensures { OnOk result (out.new.items ≡ out.old.items ++ record_bytes (d.Done seq changed.now entries.now)) }
+    ensures { OnOk result (AddsDone seq changed.now entries.now out.old.items out.new.items) }
 {
     out.push(0x07)?;
     put_u32(out, seq)?;
