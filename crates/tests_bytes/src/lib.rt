@@ -1,9 +1,11 @@
-//! Tests of frames and messages by their public calls.
+//! Tests of frames, messages and records by their public calls.
 #![tactic(auto)]
 
 #[cfg(test)]
 mod frames;
 #[cfg(test)]
 mod messages;
+#[cfg(test)]
+mod records;
 #[cfg(test)]
 mod trees;
