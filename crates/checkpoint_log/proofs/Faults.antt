@@ -1,5 +1,5 @@
 -- Each fault of a log comes exactly where the bytes have it.
-use Rattle.std.proofs.Common.{◌≡◌, ◌⊎◌, inl, inr, refl, sym, ◌∙◌, List, [], ◌∷◌, ℕ, Option, None, Result, Ok, Err, IfOk}
+use Rattle.std.proofs.Common.{◌≡◌, inl, inr, refl, sym, ◌∙◌, [], ◌∷◌, ℕ, Result, Ok, Err, IfOk}
 use Rattle.salt_disk.specs.declared.disk.Part.{Part}
 use Rattle.salt_disk.specs.declared.disk.Part.TheVariants.{Root, Even}
 use Rattle.salt_disk.specs.Crash.{Image}

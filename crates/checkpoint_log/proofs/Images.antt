@@ -1,12 +1,10 @@
 -- What a disk holds as a log, from what its parts hold.
-use Rattle.std.proofs.Common.{◌≡◌, ◌≢◌, ◌⊎◌, inl, inr, ⊎_elim, ℕ, ◌+◌, ◌<◌, ◌≤◌, ◌-◌, ◌==◌, List, [], ◌∷◌, ◌++◌, length, get_or, zero, suc, refl, sym, ◌∙◌, ap, subst, arith, Bool, true, false, if◌then◌else◌, Result, Ok, Err}
+use Rattle.std.proofs.Common.{◌≡◌, ◌≢◌, ◌⊎◌, inl, inr, ⊎_elim, ℕ, ◌<◌, ◌-◌, ◌==◌, List, [], ◌∷◌, ◌++◌, length, get_or, zero, suc, refl, sym, ◌∙◌, subst, arith, Bool, true, false, if◌then◌else◌, Result, Ok, Err}
 use Rattle.salt_disk.specs.declared.disk.Part.{Part}
 use Rattle.salt_disk.specs.declared.disk.Part.TheVariants.{Root, Even}
 use Rattle.salt_disk.specs.declared.disk.Fuse.{Fuse}
 use Rattle.salt_disk.specs.Disk.{PartState, DiskState, part_of}
 use Rattle.salt_disk.specs.Crash.{Image, IsPartImage, MayLeave, OthersStay}
-use Rattle.salt_disk.specs.Fuse.{Passes}
-use Rattle.salt_disk.specs.Memory.{IsPicked}
 use Rattle.salt_disk.proofs.Torn.{settled_image}
 use Rattle.gate_journal.specs.Layout.{fresh_length}
 use Rattle.gate_journal.specs.Journal.{JournalState, IsJournal, Rests, HoldsPayloads, HoldsOldOrNew, StoppedAppend, DecidedByGate, journal_length}
@@ -16,7 +14,7 @@ use Rattle.gate_journal.specs.Append.{LeftAfter, payloads_after}
 use Rattle.gate_journal.proofs.Store.{length-journal, journal_length-push}
 use Rattle.gate_journal.proofs.Unique.{one_journal}
 use Rattle.checkpoint_log.specs.Content.{LogContent, content_after, IsLog, HoldsContent}
-use Rattle.checkpoint_log.specs.Additions.{IsOldOrNewLog, IsLogLeftAfter, IsStoppedLog, content_by_gate, content_by_answer}
+use Rattle.checkpoint_log.specs.Additions.{IsOldOrNewLog, IsLogLeftAfter, IsStoppedLog, content_by_answer}
 
 pub root_even : Root ≢ Even
 root_even e = absurd (cc)

@@ -1,5 +1,5 @@
 -- What a crash leaves of a log that is being made.
-use Rattle.std.proofs.Common.{◌≡◌, ◌≢◌, ℕ, ◌+◌, ◌-◌, ◌≤◌, List, [], length, refl, sym, ◌∙◌, ap, subst, arith}
+use Rattle.std.proofs.Common.{◌≡◌, ℕ, ◌-◌, ◌≤◌, List, length, refl, ◌∙◌, ap, subst, arith}
 use Rattle.salt_disk.specs.declared.disk.Part.TheVariants.{Root, Even}
 use Rattle.salt_disk.specs.declared.disk.Fuse.{Fuse}
 use Rattle.salt_disk.specs.declared.disk.Fuse.TheVariants.{Whole, Armed, Out}
@@ -9,7 +9,7 @@ use Rattle.salt_disk.specs.Fuse.{Passes, fuse_after}
 use Rattle.salt_disk.proofs.Torn.{settled_image}
 use Rattle.gate_journal.specs.Creation.{IsFresh, HoldsNothing}
 use Rattle.gate_journal.proofs.Making.{short_holds_nothing}
-use Rattle.checkpoint_log.specs.Content.{LogContent, first_content, IsLog, bytes_in}
+use Rattle.checkpoint_log.specs.Content.{bytes_in}
 use Rattle.checkpoint_log.specs.Creation.{IsFreshLog, HoldsNoPayload, IsSettledForLog, AreShort}
 use Rattle.checkpoint_log.proofs.Images.{root_even, even_root}
 

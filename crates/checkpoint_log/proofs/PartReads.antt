@@ -1,5 +1,5 @@
 -- How a load reads the parts.
-use Rattle.std.proofs.Common.{◌≡◌, ◌≢◌, ◌⊎◌, inl, inr, refl, sym, ◌∙◌, ap, subst, List, [], ◌∷◌, ℕ, ◌+◌, ◌-◌, ◌≤◌, length, Bool, true, false, if◌then◌else◌, ◌==◌, arith, Option, Some, None, Result, Ok, Err, IfOk, IsOk, OnOk, IsErrOf}
+use Rattle.std.proofs.Common.{◌≡◌, ◌≢◌, inl, inr, refl, sym, ◌∙◌, ap, subst, List, [], ◌∷◌, ℕ, ◌-◌, ◌≤◌, length, Bool, true, false, if◌then◌else◌, ◌==◌, arith, Some, None, Result, Ok, Err, IfOk}
 use Rattle.salt_disk.specs.declared.disk.Part.{Part}
 use Rattle.salt_disk.specs.declared.disk.Part.TheVariants.{Root, Even, Odd}
 use Rattle.salt_disk.specs.declared.disk.Fuse.{Fuse}
@@ -16,8 +16,8 @@ use Rattle.gate_journal.specs.Layout.{first_gate}
 use Rattle.gate_journal.specs.Payloads.{PlacedPayloads}
 use Rattle.gate_journal.specs.Damage.{IsNoJournal, IsDamagedAt}
 use Rattle.checkpoint_log.specs.declared.content.LoadedContent.{LoadedContent}
-use Rattle.checkpoint_log.specs.Content.{LogContent, bytes_in, IsLog, HoldsContent}
-use Rattle.checkpoint_log.specs.Loading.{NamesFirst, NamesAnother, IsDamagedLog, HasLogFault, TellsOfLog, IsReadAs, root_fault, IsGeneration, content_of, HoldsLoaded, AreSettled}
+use Rattle.checkpoint_log.specs.Content.{bytes_in}
+use Rattle.checkpoint_log.specs.Loading.{NamesFirst, NamesAnother, IsDamagedLog, HasLogFault, TellsOfLog, IsReadAs, root_fault, IsGeneration, HoldsLoaded, AreSettled}
 
 -- what holds of a part and of each other one
 pub each_part : (P : Part → Type 0) (part : Part) → P part → ((other : Part) → other ≢ part → P other) → (any : Part) → P any
@@ -113,6 +113,9 @@ fails_with image f tells = record { found = tt; faulty = λ g e. subst (λ (h : 
 
 pub fault_is : {T E : Type 0} (x y : E) → ◌≡◌ {A = Result T E} (Err x) (Err y) → x ≡ y
 fault_is x y e = cc
+
+pub not_disk : (part : Part) (at : ℕ) → Damaged part at ≡ Disk → ⊥
+not_disk part at e = absurd (cc)
 
 at_ok : {X E : Type 0} (P : X → Type 0) (q : Result X E) (x : X) → IfOk q P → q ≡ Ok x → P x
 at_ok P q x p e = subst (λ s. IfOk s P) e p

@@ -1,5 +1,5 @@
 -- What a disk in memory keeps after a call that its fuse cut off, and a crash.
-use Rattle.std.proofs.Common.{◌≡◌, ℕ, ◌+◌, ◌-◌, ◌<◌, ◌≤◌, leb, Bool, true, false, if◌then◌else◌, List, [], ◌∷◌, ◌++◌, length, refl, sym, ◌∙◌, ap, arith, Result, IsErrOf}
+use Rattle.std.proofs.Common.{◌≡◌, ℕ, leb, Bool, true, false, if◌then◌else◌, List, refl, arith, Result, IsErrOf}
 use Rattle.std.proofs.lemmas.Bool.{leb-true, le-leb}
 use Rattle.std.proofs.lemmas.List.{ext_get_or}
 use Rattle.salt_disk.specs.declared.disk.Part.{Part}
@@ -12,7 +12,7 @@ use Rattle.gate_journal.specs.declared.fault.AppendFault.{AppendFault}
 use Rattle.gate_journal.specs.declared.fault.AppendFault.TheVariants.{Disk}
 use Rattle.gate_journal.specs.Journal.{JournalState}
 use Rattle.gate_journal.proofs.Store.{journal_length-push}
-use Rattle.checkpoint_log.specs.Content.{LogContent, content_after, IsLog, HoldsContent}
+use Rattle.checkpoint_log.specs.Content.{LogContent, IsLog, HoldsContent}
 use Rattle.checkpoint_log.specs.Additions.{LogBurns, content_by_gate}
 use Rattle.checkpoint_log.specs.Laws.{LengthsFollow}
 

@@ -1,7 +1,6 @@
 -- What a log holds, and which images of a disk are a log.
 -- So far there is generation 0 alone: the root has no record, the payloads stand on `Even`, and `Odd` is not used.
 use Rattle.std.specs.Prelude.{◌≡◌, ℕ, List, [], ◌∷◌, ◌++◌, Option, None}
-use Rattle.salt_disk.specs.declared.disk.Part.{Part}
 use Rattle.salt_disk.specs.declared.disk.Part.TheVariants.{Root, Even}
 use Rattle.salt_disk.specs.Disk.{DiskState, part_of}
 use Rattle.salt_disk.specs.Crash.{Image}

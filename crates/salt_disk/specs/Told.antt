@@ -28,5 +28,5 @@ abbrev pub fresh_disks : ℕ → List DiskTold
 fresh_disks count = replicate count fresh_told
 
 -- The disk that is lent is the one with this number, and none is lent where there is none.
-abbrev pub IsOneOf : {D : Type 0} → Ghosts D → List DiskTold → ℕ → Option (MutBor D) → Type 0
-IsOneOf disk disks n lent = option_map (told_by disk) (option_copied_mut lent) ≡ slice_get disks n
+abbrev pub IsDiskAt : {D : Type 0} → Ghosts D → List DiskTold → ℕ → Option (MutBor D) → Type 0
+IsDiskAt disk disks n lent = option_map (told_by disk) (option_copied_mut lent) ≡ slice_get disks n

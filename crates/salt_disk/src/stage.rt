@@ -1,7 +1,7 @@
 //! Disks in memory, one for each node of a network.
 ghost use Rattle.std.specs.Prelude.{◌≡◌, [], map, OnOk, OnErr, IfOk};
 ghost use Rattle.std.specs.Borrow.{sem};
-ghost use Rattle.salt_disk.specs.Told.{fresh_disks, told_by, IsOneOf};
+ghost use Rattle.salt_disk.specs.Told.{fresh_disks, told_by, IsDiskAt};
 ghost use Rattle.salt_disk.specs.Stage.{LendsDisk};
 
 use crate::{Disk, MemDisk};
@@ -46,7 +46,7 @@ impl MemStage {
     /// Lends the disk of node `n`; None exactly where there is none. Whatever is done to it, the other disks stay.
     pub fn disk(&mut self, n: usize) -> Option<&mut MemDisk>
         ensures* stage { sem 𝓛 (LendsDisk ⟦<MemDisk as Disk>⟧ self.entry n result) }
-        ensures value { IsOneOf ⟦<MemDisk as Disk>⟧ self.old n result }
+        ensures value { IsDiskAt ⟦<MemDisk as Disk>⟧ self.old n result }
     {
         self.disks.get_mut(n)
     }
