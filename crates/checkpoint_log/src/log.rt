@@ -157,23 +157,23 @@ impl Log {
 
 // An append to the journal of generation 0.
 fn append_to<D: Disk>(
-    journal: &mut Journal,
+    log: &mut Journal,
     alloc: Global,
     disk: &mut D,
     payload: &[u8],
 ) -> Result<(), AppendFault>
-    requires { D.is_told → journal.old.is_down ≡ false → StandsAsLog journal.old (D.state disk.old) }
-    ensures held { HoldsContentAfter D.Disk disk.old disk.new journal.old journal.new payload.now result }
-    ensures any_moment { LeavesOldOrNewLog D.Disk disk.old disk.new journal.old payload.now }
-    ensures left { LeavesLogByAnswer D.Disk disk.old disk.new journal.old payload.now result }
-    ensures down_moment { LeavesAsBeforeIfDown D.Disk disk.old disk.new journal.old }
-    ensures fuse { BurnsByLogAppend D.Disk disk.old disk.new journal.old payload.now result }
-    ensures log { journal.new ≡ after_append journal.old (length payload.now) result }
-    ensures down { DownExactly journal.old disk.old disk.new result }
-    ensures full { FullExactly journal.old (length payload.now) disk.old disk.new result }
+    requires { D.is_told → log.old.is_down ≡ false → StandsAsLog log.old (D.state disk.old) }
+    ensures held { HoldsContentAfter D.Disk disk.old disk.new log.old log.new payload.now result }
+    ensures any_moment { LeavesOldOrNewLog D.Disk disk.old disk.new log.old payload.now }
+    ensures left { LeavesLogByAnswer D.Disk disk.old disk.new log.old payload.now result }
+    ensures down_moment { LeavesAsBeforeIfDown D.Disk disk.old disk.new log.old }
+    ensures fuse { BurnsByLogAppend D.Disk disk.old disk.new log.old payload.now result }
+    ensures log { log.new ≡ after_append log.old (length payload.now) result }
+    ensures down { DownExactly log.old disk.old disk.new result }
+    ensures full { FullExactly log.old (length payload.now) disk.old disk.new result }
     ensures faults { CountsFailures D.faults AppendFault.Disk disk.old disk.new result }
 {
-    journal.append(alloc, disk, payload)
+    log.append(alloc, disk, payload)
 }
 
 // Generation 0 as it was read of its part, where the root names it.

@@ -1,5 +1,5 @@
 -- What a disk tells, as one value, and what several disks tell.
-use Rattle.std.specs.Prelude.{◌≡◌, ℕ, List, [], replicate, Option, slice_get}
+use Rattle.std.specs.Prelude.{◌≡◌, ℕ, List, [], replicate, map, Option, slice_get}
 use Rattle.std.specs.Borrow.{MutBor}
 use Rattle.std.specs.Option.{option_copied_mut, option_map}
 use Rattle.salt_disk.specs.declared.disk.Disk.{Ghosts}
@@ -30,3 +30,7 @@ fresh_disks count = replicate count fresh_told
 -- The disk that is lent is the one with this number, and none is lent where there is none.
 abbrev pub IsDiskAt : {D : Type 0} → Ghosts D → List DiskTold → ℕ → Option (MutBor D) → Type 0
 IsDiskAt disk disks n lent = option_map (told_by disk) (option_copied_mut lent) ≡ slice_get disks n
+
+-- These disks tell what so many tell that were just made. No public contract cites it.
+abbrev pub AreFresh : {D : Type 0} → Ghosts D → List D → ℕ → Type 0
+AreFresh disk disks count = map (told_by disk) disks ≡ fresh_disks count

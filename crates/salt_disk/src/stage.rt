@@ -1,7 +1,7 @@
 //! Disks in memory, one for each node of a network.
-ghost use Rattle.std.specs.Prelude.{◌≡◌, [], map, OnOk, OnErr, IfOk};
+ghost use Rattle.std.specs.Prelude.{◌≡◌, [], OnOk, OnErr, IfOk};
 ghost use Rattle.std.specs.Borrow.{sem};
-ghost use Rattle.salt_disk.specs.Told.{fresh_disks, told_by, IsDiskAt};
+ghost use Rattle.salt_disk.specs.Told.{fresh_disks, IsDiskAt, AreFresh};
 ghost use Rattle.salt_disk.specs.Stage.{LendsDisk};
 
 use crate::{Disk, MemDisk};
@@ -54,7 +54,7 @@ impl MemStage {
 
 // So many empty disks.
 fn empty_disks(alloc: Global, count: usize) -> Result<Vec<MemDisk>, AllocError>
-    ensures { IfOk result (λ disks. map (told_by ⟦<MemDisk as Disk>⟧) disks.items ≡ fresh_disks count) }
+    ensures ok { IfOk result (λ disks. AreFresh ⟦<MemDisk as Disk>⟧ disks.items count) }
 {
     let mut disks = Vec::new(alloc);
     for _ in 0..count {
