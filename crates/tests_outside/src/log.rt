@@ -263,10 +263,10 @@ fn create(rt: &impl Abort, alloc: Global, passes: u64, pick: u8, cut: u64) -> Me
 
 // A crash, and then a create.
 fn create_after(disk: &mut MemDisk) -> Result<(), CreateFault> {
-    if disk.crash(0, 0).is_err() {
-        return Err(CreateFault::NoMemory);
+    match disk.crash(0, 0) {
+        Ok(()) => Log::create(disk, 64),
+        Err(_) => Err(CreateFault::NoMemory),
     }
-    Log::create(disk, 64)
 }
 
 #[test]
