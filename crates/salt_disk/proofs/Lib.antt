@@ -3,3 +3,4 @@ pub mod Torn
 pub mod Record
 pub mod Blots
 pub mod Images
+pub mod StageLemmas

@@ -453,8 +453,8 @@ fn a_create_that_was_stopped_is_made_again(rt: HostRuntime) {
 
 // A disk that tells nothing, as one over real files does. Each part has these bytes, and no call fails.
 #[derive(Drop)]
-struct Steady {
-    bytes: &'static [u8],
+pub struct Steady {
+    pub bytes: &'static [u8],
 }
 
 impl Disk for Steady {

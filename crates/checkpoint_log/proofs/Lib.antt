@@ -1,0 +1,5 @@
+pub mod Images
+pub mod Making
+pub mod Faults
+pub mod PartReads
+pub mod Stops
