@@ -616,7 +616,12 @@ impl<'f> Node<'f> {
     }
 
     // The record of an entry from below, where its number is the next.
-    fn entry_deed(&self, minion: MinionId, n: u32, entry: &Entry) -> Result<Option<Deed>, AllocError>
+    fn entry_deed(
+        &self,
+        minion: MinionId,
+        n: u32,
+        entry: &Entry,
+    ) -> Result<Option<Deed>, AllocError>
         requires right { n ≡ length (log minion self.now.state.records)
             → MayAdd (Up minion entry.now) self.now }
         ensures ok { IfOk result (IsNextEntryDeed minion n entry.now self.now) }

@@ -11,11 +11,7 @@ use salt_wire::Deed;
 use std::alloc::AllocError;
 
 /// A record more, which the core of a master takes in. After an error all is as before.
-pub fn push_deed(
-    records: &mut History,
-    core: &mut MasterCore,
-    deed: Deed,
-) -> Result<(), AllocError>
+pub fn push_deed(records: &mut History, core: &mut MasterCore, deed: Deed) -> Result<(), AllocError>
     requires right { IsRightFor deed core.old }
     ensures records { OnOk result (records.new ≡ records.old ++ deed ∷ []) }
     ensures core { OnOk result (core.new ≡ master_after deed core.old) }

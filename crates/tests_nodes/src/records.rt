@@ -319,12 +319,7 @@ fn taken_at(
 }
 
 // What the node answers to a message with this record.
-fn with_record(
-    node: &mut Node,
-    from: NodeId,
-    message: &Message,
-    deed: Option<Deed>,
-) -> Reply
+fn with_record(node: &mut Node, from: NodeId, message: &Message, deed: Option<Deed>) -> Reply
     requires fits { Within message.now }
     requires record { IsRecordFor from message.now node.old deed }
 {
@@ -348,7 +343,13 @@ static MESSAGES: [(u32, u32, Sent, Added, Reply); 9] = [
     ),
     (1, 0, Sent::Pub(0, 7), Added::Intake, Reply::Jobs(1)),
     (1, 2, Sent::Start("m1", 0), Added::Up, Reply::Entries(1)),
-    (1, 2, Sent::Start("m1", 1), Added::Nothing, Reply::Entries(0)),
+    (
+        1,
+        2,
+        Sent::Start("m1", 1),
+        Added::Nothing,
+        Reply::Entries(0),
+    ),
     (0, 1, Sent::Have(0), Added::Nothing, Reply::Nothing),
     (
         0,
