@@ -268,7 +268,7 @@ enum Added {
     Other,
 }
 
-fn added(record: &Result<Option<Deed>, TakeFault>) -> Added {
+fn kind_of(record: &Result<Option<Deed>, TakeFault>) -> Added {
     match record {
         Ok(None) => Added::Nothing,
         Ok(Some(Deed::Intake { .. })) => Added::Intake,
@@ -287,7 +287,7 @@ fn by_record(rt: &impl Abort, node: &mut Node, from: NodeId, message: &Message) 
         panic!(rt; "{FAILED}");
     }
     let record = node.record_for(from, message);
-    let added = added(&record);
+    let added = kind_of(&record);
     let reply = match record {
         Ok(deed) => with_record(node, from, message, deed),
         Err(_) => Reply::Other,
