@@ -6,7 +6,7 @@ use Rattle.std.proofs.lemmas.Option.{slice_get-get_or, slice_get_past, slice_get
 
 -- each other item stays where one is set
 get-set_other : {A : Type 0} (xs : List A) (n j : ℕ) (a : A) → j ≢ n → slice_get (set xs n a) j ≡ slice_get xs j
-get-set_other xs n j a ne = by (slice_get_cases xs j).1
+get-set_other {A = A} xs n j a ne = by (slice_get_cases xs j).1
   where
     by : ((x : A) × (j < length xs) × (slice_get xs j ≡ Some x) × (get_or xs j x ≡ x)) ⊎ ((length xs ≤ j) × (slice_get xs j ≡ None)) → slice_get (set xs n a) j ≡ slice_get xs j
     by (inl found) =
