@@ -1,5 +1,5 @@
 //! Reads the parts of a log.
-ghost use Rattle.std.specs.Prelude.{◌≡◌, IfOk, OnOk, IsOk, IsErrOf};
+ghost use Rattle.std.specs.Prelude.{◌≡◌, IfOk, OnOk};
 ghost use Rattle.salt_disk.specs.declared.disk.Part.TheVariants.{Even};
 ghost use Rattle.salt_disk.specs.Disk.{part_of, IsSettled};
 ghost use Rattle.salt_outside.specs.Causes.{CountsFailures};
