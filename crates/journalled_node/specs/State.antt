@@ -1,5 +1,6 @@
 -- A node over its log, and what a disk or an image of one has of it.
-use Rattle.std.specs.Prelude.{◌⊎◌, ℕ, ◌||◌, Bool, List, map, Option, None}
+use Rattle.std.specs.Prelude.{◌≡◌, ◌⊎◌, ℕ, ◌||◌, Bool, false, List, map, Option, None}
+use Rattle.salt_disk.specs.declared.disk.Disk.{Ghosts}
 use Rattle.salt_disk.specs.Disk.{DiskState}
 use Rattle.salt_disk.specs.Crash.{Image}
 use Rattle.gate_journal.specs.Journal.{JournalState}
@@ -27,6 +28,14 @@ records_content records = record { base = None; rest = map record_bytes records 
 -- the disk has the records of this node in its log, and nothing is pending there
 abbrev pub StandsOnDisk : JournalledState → DiskState → Type 0
 StandsOnDisk n disk = HoldsContent n.log (records_content n.node.state.records) disk
+
+-- a disk that tells what it holds has the records of this node in this log
+abbrev pub HasRecordsOf : {D : Type 0} → Ghosts D → D → PlacedNode → JournalState → Type 0
+HasRecordsOf disk now node log = disk.is_told → HoldsContent log (records_content node.state.records) (disk.state now)
+
+-- the same of a node over its log, as long as it is up
+abbrev pub StandsIfUp : {D : Type 0} → Ghosts D → D → JournalledState → Type 0
+StandsIfUp disk now n = disk.is_told → is_lost_or_down n ≡ false → StandsOnDisk n (disk.state now)
 
 -- this image is a log of this limit that has these records
 abbrev pub HasRecords : ℕ → List Deed → Image → Type 0

@@ -25,10 +25,14 @@ pub fn keep<D: Disk>(
     requires up { log.old.is_down ≡ false }
     requires fits { RecordFits deed.now }
     requires stands { D.is_told → StandsAsLog log.old (D.state disk.old) }
-    ensures held { HoldsContentAfter D.Disk disk.old disk.new log.old log.new (record_bytes deed.now) result }
-    ensures any_moment { LeavesOldOrNewLog D.Disk disk.old disk.new log.old (record_bytes deed.now) }
-    ensures left { LeavesLogByAnswer D.Disk disk.old disk.new log.old (record_bytes deed.now) result }
-    ensures fuse { BurnsByLogAppend D.Disk disk.old disk.new log.old (record_bytes deed.now) result }
+    ensures held { HoldsContentAfter D.Disk disk.old disk.new log.old log.new
+        (record_bytes deed.now) result }
+    ensures any_moment { LeavesOldOrNewLog D.Disk disk.old disk.new log.old
+        (record_bytes deed.now) }
+    ensures left { LeavesLogByAnswer D.Disk disk.old disk.new log.old
+        (record_bytes deed.now) result }
+    ensures fuse { BurnsByLogAppend D.Disk disk.old disk.new log.old
+        (record_bytes deed.now) result }
     ensures log { log.new ≡ after_append log.old (length (record_bytes deed.now)) result }
     ensures down { DownExactly log.old disk.old disk.new result }
     ensures full { TellsRoom log.old (length (record_bytes deed.now)) result }

@@ -5,7 +5,7 @@ ghost use Rattle.salt_wire.specs.Limits.{Within};
 ghost use Rattle.node_core.specs.Node.{TakesMessage, IsSamePlace, IsCounted};
 ghost use Rattle.node_core.specs.Publications.{order, PublishesOrder};
 ghost use Rattle.journalled_node.specs.Orders.{publish_end, published_at, IsJournalledRefusal};
-ghost use Rattle.journalled_node.specs.State.{is_lost_or_down, StandsOnDisk};
+ghost use Rattle.journalled_node.specs.State.{is_lost_or_down, StandsIfUp};
 ghost use Rattle.journalled_node.specs.Calls.{KeepsIfUp, EndsDownExactly, HadRoom, IsJournalledFault, take_end, added_at};
 
 use crate::publishing::publish;
@@ -82,7 +82,7 @@ impl<'f> JournalledNode<'f> {
     ) -> Result<Option<Message>, TakeFault>
         requires counted { IsCounted message.now }
         requires fits { Within message.now }
-        requires stands { D.is_told → is_lost_or_down self.old ≡ false → StandsOnDisk self.old (D.state disk.old) }
+        requires stands { StandsIfUp D.Disk disk.old self.old }
         ensures ok { IfOk result (TakesMessage from message.now self.old.node self.new.node) }
         ensures place { IsSamePlace self.old.node self.new.node }
         ensures counted { IfOk result (λ reply. IfSome reply IsCounted) }
@@ -124,7 +124,7 @@ impl<'f> JournalledNode<'f> {
         args: &[Value],
     ) -> Result<Jid, PublishFault>
         requires top { self.old.node.me ≡ 0 }
-        requires stands { D.is_told → is_lost_or_down self.old ≡ false → StandsOnDisk self.old (D.state disk.old) }
+        requires stands { StandsIfUp D.Disk disk.old self.old }
         ensures ok { IfOk result (PublishesOrder moment
             (order kind tgt.now fun.now args.now) self.old.node self.new.node) }
         ensures place { IsSamePlace self.old.node self.new.node }

@@ -1,12 +1,11 @@
 //! A job and its record.
 ghost use Rattle.std.specs.Prelude.{◌≡◌, false, Some, IfOk, IfErr, OnOk, OnErr};
 ghost use Rattle.salt_outside.specs.Causes.{CountsFailures};
-ghost use Rattle.checkpoint_log.specs.Content.{HoldsContent};
 ghost use Rattle.salt_wire.specs.declared.deed.Deed.TheVariants.{Publish};
 ghost use Rattle.node_core.specs.Node.{IsSamePlace};
 ghost use Rattle.node_core.specs.NextRecords.{MayAdd, placed_after};
 ghost use Rattle.node_core.specs.Publications.{order, PublishesOrder};
-ghost use Rattle.journalled_node.specs.State.{records_content};
+ghost use Rattle.journalled_node.specs.State.{HasRecordsOf};
 ghost use Rattle.journalled_node.specs.Calls.{KeepsByCall, HadRoom, node_over};
 ghost use Rattle.journalled_node.specs.Orders.{publish_end, published_at, IsKeptRefusal, IsUpRefusal};
 
@@ -32,14 +31,16 @@ pub fn publish_new<D: Disk>(
 ) -> Result<Jid, PublishFault>
     requires up { (log.old.is_down ≡ false) × (lost.old ≡ false) }
     requires next { MayAdd (Publish job) node.old }
-    requires stands { D.is_told → HoldsContent log.old (records_content node.old.state.records) (D.state disk.old) }
+    requires stands { HasRecordsOf D.Disk disk.old node.old log.old }
     ensures ok { OnOk result (node.new ≡ placed_after (Publish job) node.old) }
     ensures jid { IfOk result (λ jid. jid ≡ job.jid) }
     ensures err { OnErr result (node.new ≡ node.old) }
     ensures journal { KeepsByCall D.Disk disk.old disk.new (node_over node.old log.old lost.old)
         (node_over node.new log.new lost.new) (Some (Publish job)) (publish_end result) }
-    ensures fault { IfErr result (IsKeptRefusal (node_over node.old log.old lost.old) (Publish job)) }
-    ensures room { OnOk result (HadRoom (node_over node.old log.old lost.old) (Some (Publish job))) }
+    ensures fault { IfErr result (IsKeptRefusal (node_over node.old log.old lost.old)
+        (Publish job)) }
+    ensures room { OnOk result (HadRoom (node_over node.old log.old lost.old) (Some
+        (Publish job))) }
     ensures faults { CountsFailures D.faults PublishFault.Disk disk.old disk.new result }
 {
     stops_go_by_the_gate();
@@ -72,7 +73,7 @@ pub fn publish<D: Disk>(
 ) -> Result<Jid, PublishFault>
     requires up { (log.old.is_down ≡ false) × (lost.old ≡ false) }
     requires top { node.old.me ≡ 0 }
-    requires stands { D.is_told → HoldsContent log.old (records_content node.old.state.records) (D.state disk.old) }
+    requires stands { HasRecordsOf D.Disk disk.old node.old log.old }
     ensures ok { IfOk result (PublishesOrder moment
         (order kind tgt.now fun.now args.now) node.old node.new) }
     ensures place { IsSamePlace node.old node.new }

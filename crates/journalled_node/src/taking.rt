@@ -1,11 +1,10 @@
 //! A message and its record.
 ghost use Rattle.std.specs.Prelude.{◌≡◌, false, Some, IfOk, IfErr, IfSome, OnOk, OnErr};
 ghost use Rattle.salt_outside.specs.Causes.{CountsFailures};
-ghost use Rattle.checkpoint_log.specs.Content.{HoldsContent};
 ghost use Rattle.salt_wire.specs.Limits.{Within};
 ghost use Rattle.node_core.specs.Node.{TakesMessage, IsSamePlace, IsCounted};
 ghost use Rattle.node_core.specs.NextRecords.{IsRecordFor};
-ghost use Rattle.journalled_node.specs.State.{records_content};
+ghost use Rattle.journalled_node.specs.State.{HasRecordsOf};
 ghost use Rattle.journalled_node.specs.Calls.{KeepsByCall, HadRoom, IsKeptFault, IsUpFault, take_end, added_at, node_over};
 
 use crate::TakeFault;
@@ -32,7 +31,7 @@ pub fn take_new<D: Disk>(
     requires up { (log.old.is_down ≡ false) × (lost.old ≡ false) }
     requires fits { Within message.now }
     requires record { IsRecordFor from message.now node.old (Some deed) }
-    requires stands { D.is_told → HoldsContent log.old (records_content node.old.state.records) (D.state disk.old) }
+    requires stands { HasRecordsOf D.Disk disk.old node.old log.old }
     ensures ok { IfOk result (TakesMessage from message.now node.old node.new) }
     ensures place { IsSamePlace node.old node.new }
     ensures counted { IfOk result (λ reply. IfSome reply IsCounted) }
@@ -71,7 +70,7 @@ pub fn take<D: Disk>(
     requires up { (log.old.is_down ≡ false) × (lost.old ≡ false) }
     requires counted { IsCounted message.now }
     requires fits { Within message.now }
-    requires stands { D.is_told → HoldsContent log.old (records_content node.old.state.records) (D.state disk.old) }
+    requires stands { HasRecordsOf D.Disk disk.old node.old log.old }
     ensures ok { IfOk result (TakesMessage from message.now node.old node.new) }
     ensures place { IsSamePlace node.old node.new }
     ensures counted { IfOk result (λ reply. IfSome reply IsCounted) }
@@ -79,8 +78,10 @@ pub fn take<D: Disk>(
     ensures err { OnErr result (node.new ≡ node.old) }
     ensures journal { KeepsByCall D.Disk disk.old disk.new (node_over node.old log.old lost.old)
         (node_over node.new log.new lost.new) (added_at message.now node.old) (take_end result) }
-    ensures fault { IfErr result (IsUpFault from message.now (node_over node.old log.old lost.old)) }
-    ensures room { OnOk result (HadRoom (node_over node.old log.old lost.old) (added_at message.now node.old)) }
+    ensures fault { IfErr result (IsUpFault from message.now
+        (node_over node.old log.old lost.old)) }
+    ensures room { OnOk result (HadRoom (node_over node.old log.old lost.old)
+        (added_at message.now node.old)) }
     ensures faults { CountsFailures D.faults TakeFault.Disk disk.old disk.new result }
 {
     logs_at_rest_are_left();
