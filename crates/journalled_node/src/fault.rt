@@ -4,7 +4,6 @@ ghost use Rattle.journalled_node.specs.Calls as call;
 ghost use Rattle.journalled_node.specs.Orders as order;
 
 use gate_journal::AppendFault;
-use node_core as core;
 use node_core::{PublishRefusal, Stray};
 use thiserror::Error;
 
@@ -63,13 +62,13 @@ pub fn kept_fault(fault: AppendFault) -> TakeFault
 }
 
 /// The fault of a message that the node in memory doesn't take.
-pub fn node_fault(fault: core::TakeFault) -> TakeFault
+pub fn node_fault(fault: node_core::TakeFault) -> TakeFault
     ensures { result ≡ call.node_fault fault }
 {
     match fault {
-        core::TakeFault::Stray { cause } => TakeFault::Stray { cause },
-        core::TakeFault::TooBig { leaf } => TakeFault::TooBig { leaf },
-        core::TakeFault::NoMemory => TakeFault::NoMemory,
+        node_core::TakeFault::Stray { cause } => TakeFault::Stray { cause },
+        node_core::TakeFault::TooBig { leaf } => TakeFault::TooBig { leaf },
+        node_core::TakeFault::NoMemory => TakeFault::NoMemory,
     }
 }
 
@@ -86,12 +85,12 @@ pub fn unpublished(fault: AppendFault) -> PublishFault
 }
 
 /// The fault of an order of which the node in memory makes no job.
-pub fn unmade(fault: core::PublishFault) -> PublishFault
+pub fn unmade(fault: node_core::PublishFault) -> PublishFault
     ensures { result ≡ order.unmade fault }
 {
     match fault {
-        core::PublishFault::Refused { cause } => PublishFault::Refused { cause },
-        core::PublishFault::TooBig { leaf } => PublishFault::TooBig { leaf },
-        core::PublishFault::NoMemory => PublishFault::NoMemory,
+        node_core::PublishFault::Refused { cause } => PublishFault::Refused { cause },
+        node_core::PublishFault::TooBig { leaf } => PublishFault::TooBig { leaf },
+        node_core::PublishFault::NoMemory => PublishFault::NoMemory,
     }
 }
