@@ -14,8 +14,6 @@ mod orders;
 #[cfg(test)]
 mod readings;
 #[cfg(test)]
-mod records;
-#[cfg(test)]
 mod steps;
 #[cfg(test)]
 mod syndics;

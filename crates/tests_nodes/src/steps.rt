@@ -121,8 +121,7 @@ fn hello(rt: &impl Abort, minion: &str) -> Message
     Message::Hello { id }
 }
 
-/// The message that is sent.
-pub fn message(rt: &impl Abort, alloc: Global, sent: Sent) -> Message
+fn message(rt: &impl Abort, alloc: Global, sent: Sent) -> Message
     ensures value { Within result }
 {
     match sent {
@@ -150,8 +149,8 @@ pub fn message(rt: &impl Abort, alloc: Global, sent: Sent) -> Message
     }
 }
 
-/// Has the message a number that a node takes?
-pub fn is_counted(message: &Message) -> bool
+// Has the message a number that a node takes?
+fn is_counted(message: &Message) -> bool
     ensures value { OnTrue result (IsCounted message.now) }
 {
     match message {
@@ -160,8 +159,8 @@ pub fn is_counted(message: &Message) -> bool
     }
 }
 
-/// What a message replies.
-pub fn reply_in(message: &Message) -> Reply {
+// What a message replies.
+fn reply_in(message: &Message) -> Reply {
     match message {
         Message::Have { jobs } => Reply::Jobs(*jobs),
         Message::UpHave { n, .. } => Reply::Entries(*n),
