@@ -1,3 +1,5 @@
 pub mod State
 pub mod Calls
 pub mod Orders
+pub mod Loading
+pub mod Starts

@@ -1,13 +1,18 @@
 //! A node that keeps its records in a log on a disk, which is lent at each call: a record is on the disk before the node answers.
 //!
-//! `node.take(&mut disk, from, &message)?` takes a message from a neighbour, and answers the reply if there is one.
+//! ```
+//! JournalledNode::create(&mut disk, 1_073_741_824)?;
+//! let mut node = JournalledNode::load(alloc, &fleet, me, &mut disk)?;
+//! let reply = node.take(&mut disk, from, &message)?;
+//! ```
 #![tactic(auto)]
 
 mod fault;
 mod keeping;
+mod loading;
 mod node;
 mod publishing;
 mod taking;
 
-pub use fault::{PublishFault, TakeFault};
+pub use fault::{LoadFault, PublishFault, TakeFault};
 pub use node::JournalledNode;

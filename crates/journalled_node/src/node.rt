@@ -1,17 +1,25 @@
 //! A node over its log.
-ghost use Rattle.std.specs.Prelude.{◌≡◌, false, Ok, Err, IfOk, IfErr, IfSome, OnOk, OnErr};
+ghost use Rattle.std.specs.Prelude.{◌≡◌, ◌<◌, ◌≤◌, false, length, Ok, Err, IfOk, IfErr, IfSome, OnOk, OnErr};
 ghost use Rattle.salt_outside.specs.Causes.{CountsFailures};
+ghost use Rattle.gate_journal.specs.Layout.{least_limit, greatest_limit};
+ghost use Rattle.gate_journal.specs.Calls.{BurnsAtOk};
+ghost use Rattle.checkpoint_log.specs.Content.{bytes_in};
+ghost use Rattle.checkpoint_log.specs.Creation.{IsFreshLog, IsSettledForLog, LeavesNoPayloadIfShort, LeavesAsBeforeIfOneIsLong, TellsLong, RefusesOneLong, StaysIfOneIsLong};
 ghost use Rattle.salt_wire.specs.Limits.{Within};
 ghost use Rattle.node_core.specs.Node.{TakesMessage, IsSamePlace, IsCounted};
 ghost use Rattle.node_core.specs.Publications.{order, PublishesOrder};
 ghost use Rattle.journalled_node.specs.Orders.{publish_end, published_at, IsJournalledRefusal};
 ghost use Rattle.journalled_node.specs.State.{is_lost_or_down, StandsIfUp};
+ghost use Rattle.journalled_node.specs.Loading.{IsLoadedAt, IsLoadedFrom, IsLoadFault, AnswersEachNode, KeepsByLoad};
 ghost use Rattle.journalled_node.specs.Calls.{KeepsIfUp, EndsDownExactly, HadRoom, IsJournalledFault, take_end, added_at};
 
+use crate::loading::load;
 use crate::publishing::publish;
 use crate::taking::take;
-use crate::{PublishFault, TakeFault};
+use crate::{LoadFault, PublishFault, TakeFault};
 use checkpoint_log::Log;
+use fleet_config::Fleet;
+use gate_journal::CreateFault;
 use node_core::Node;
 use salt_disk::Disk;
 use salt_value::{Jid, NodeId, Value, Word};
@@ -43,8 +51,8 @@ impl<'f> Model for JournalledNode<'f> {
 }
 
 impl<'f> JournalledNode<'f> {
-    /// A node and the log that has its records, as they were made or loaded together.
-    pub fn new(alloc: Global, node: Node<'f>, log: Log) -> JournalledNode<'f>
+    // A node and the log that has its records, as they were loaded together.
+    pub(crate) fn new(alloc: Global, node: Node<'f>, log: Log) -> JournalledNode<'f>
         ensures value { result ≡ record { node = node.entry; log = log; lost = false } }
     {
         JournalledNode {
@@ -53,6 +61,50 @@ impl<'f> JournalledNode<'f> {
             log,
             lost: false,
         }
+    }
+
+    /// Makes the log of a node without a record, of this limit in bytes, from 64 to 1,073,741,824, as `Log::create` does: `Root` and `Even`
+    /// have to have at most 17 bytes each, so that a create that was stopped can be made again.
+    pub fn create<D: Disk>(disk: &mut D, limit: u64) -> Result<(), CreateFault>
+        requires least { least_limit ≤ limit }
+        requires greatest { limit ≤ greatest_limit }
+        requires settled { D.is_told → IsSettledForLog (D.state disk.old) }
+        ensures ok { D.is_told → OnOk result (IsFreshLog limit (D.state disk.new)) }
+        ensures any_moment { D.is_told → LeavesNoPayloadIfShort D.Disk disk.old disk.new }
+        ensures long_moment { D.is_told → LeavesAsBeforeIfOneIsLong D.Disk disk.old disk.new }
+        ensures fuse { D.is_told → BurnsAtOk 8 D.fuse CreateFault.Disk disk.old disk.new result }
+        ensures not_empty { D.is_told → TellsLong D.Disk disk.old disk.new result }
+        ensures complete { D.is_told → RefusesOneLong (D.state disk.old) result }
+        ensures same { D.is_told → StaysIfOneIsLong D.Disk disk.old disk.new }
+        ensures faults { CountsFailures D.faults CreateFault.Disk disk.old disk.new result }
+    {
+        Log::create(disk, limit)
+    }
+
+    /// Loads the node at a place of a fleet from its disk. It holds what its records say, and knows nothing of what its neighbours have; a
+    /// minion adds one start behind its records. A load makes three changing calls, and four more for a minion.
+    ///
+    /// A record is right where the node may add it after those before it (`Node::is_next`); the first that isn't is damage, with the place of
+    /// its gate.
+    pub fn load<D: Disk>(
+        alloc: Global,
+        fleet: &'f Fleet,
+        me: NodeId,
+        disk: &mut D,
+    ) -> Result<JournalledNode<'f>, LoadFault>
+        requires within { me < length fleet.now.tree }
+        ensures place { IfOk result (IsLoadedAt fleet.now me) }
+        ensures ok { D.is_told
+            → IfOk result (IsLoadedFrom fleet.now me (bytes_in (D.state disk.old))) }
+        ensures journal { D.is_told
+            → KeepsByLoad D.Disk disk.old disk.new fleet.now.tree me result }
+        ensures fault { D.is_told
+            → IfErr result (IsLoadFault fleet.now.tree me (bytes_in (D.state disk.old))) }
+        ensures complete { D.is_told
+            → AnswersEachNode fleet.now me (bytes_in (D.state disk.old)) result }
+        ensures faults { CountsFailures D.faults LoadFault.Disk disk.old disk.new result }
+    {
+        load(alloc, fleet, me, disk)
     }
 
     /// The node as it stands in memory.
@@ -88,6 +140,7 @@ impl<'f> JournalledNode<'f> {
         ensures counted { IfOk result (λ reply. IfSome reply IsCounted) }
         ensures fits { IfOk result (λ reply. IfSome reply Within) }
         ensures err { OnErr result (self.new.node ≡ self.old.node) }
+        ensures stands { StandsIfUp D.Disk disk.new self.new }
         ensures journal { KeepsIfUp D.Disk disk.old disk.new self.old self.new
             (added_at message.now self.old.node) (take_end result) }
         ensures down { EndsDownExactly disk.old disk.new self.old self.new (take_end result) }
@@ -129,6 +182,7 @@ impl<'f> JournalledNode<'f> {
             (order kind tgt.now fun.now args.now) self.old.node self.new.node) }
         ensures place { IsSamePlace self.old.node self.new.node }
         ensures err { OnErr result (self.new.node ≡ self.old.node) }
+        ensures stands { StandsIfUp D.Disk disk.new self.new }
         ensures journal { KeepsIfUp D.Disk disk.old disk.new self.old self.new
             (published_at moment (order kind tgt.now fun.now args.now) self.old.node)
             (publish_end result) }

@@ -1,12 +1,14 @@
 //! What the tests make: ids, words, fleets and jobs.
+ghost use Rattle.salt_wire.specs.Limits.{JobFits, TreeFits};
+
 use exec_functions::Holdings;
 use fleet_config::{Fleet, FleetNode, Role};
 use salt_value::{Items, Jid, MinionId, NodeId, Text, Word};
-use salt_wire::Job;
+use salt_wire::{Job, tree_fits};
 use sqlite_items::Boxed;
 use std::alloc::Global;
 use std::process::Abort;
-use target_tree::{Groups, Kind, read_target};
+use target_tree::{Groups, Kind, Target, read_target};
 
 /// What is said where a step that must succeed doesn't.
 pub const FAILED: &str = "memory, or a right text";
@@ -62,16 +64,49 @@ pub fn grown(rt: &impl Abort, alloc: Global) -> Fleet {
     fleet
 }
 
-/// The job `test.ping` for all minions, with the jid of this moment.
-pub fn job(rt: &impl Abort, alloc: Global, moment: u64) -> Job {
+// The target `*`, within the limits of a job's.
+fn everyone(rt: &impl Abort, alloc: Global) -> Boxed<Target>
+    ensures value { TreeFits result }
+{
     let groups = Groups::new(alloc);
     let tree = read_target(alloc, Kind::Glob, "*", &groups).expect(rt, FAILED);
-    Job {
-        jid: Jid::next(None, moment).expect(rt, FAILED),
-        kind: Kind::Glob,
-        tgt: Text::new(String::from_str(alloc, "*").expect(rt, FAILED)),
-        target: Boxed::new(alloc, tree).expect(rt, FAILED),
-        fun: word(rt, alloc, "test.ping"),
-        args: Items::new(alloc),
+    let tree = Boxed::new(alloc, tree).expect(rt, FAILED);
+    if !tree_fits(tree.get()) {
+        panic!(rt; "{FAILED}");
     }
+    tree
+}
+
+// A job of this function for these minions, without an argument.
+fn job_of(rt: &impl Abort, alloc: Global, moment: u64, target: Boxed<Target>, fun: Word) -> Job
+    requires tree { TreeFits target }
+    ensures value { JobFits result }
+{
+    let jid = Jid::next(None, moment).expect(rt, FAILED);
+    let tgt = Text::new(String::from_str(alloc, "*").expect(rt, FAILED));
+    let args = Items::new(alloc);
+    let _micros = jid.micros();
+    let _text = tgt.as_str();
+    let _word = fun.as_bytes();
+    Job {
+        jid,
+        kind: Kind::Glob,
+        tgt,
+        target,
+        fun,
+        args,
+    }
+}
+
+/// The job `test.ping` for all minions, with the jid of this moment.
+pub fn job(rt: &impl Abort, alloc: Global, moment: u64) -> Job
+    ensures value { JobFits result }
+{
+    job_of(
+        rt,
+        alloc,
+        moment,
+        everyone(rt, alloc),
+        word(rt, alloc, "test.ping"),
+    )
 }
