@@ -6,10 +6,10 @@ use Rattle.std.proofs.lemmas.Bool.{lt-ltb, le-leb, cases_lt}
 use Rattle.std.proofs.lemmas.List.{length_push, length-append, length-map, length-take-le, take-take, take_all, get_or-take, get_or-map, map-append}
 use Rattle.std.proofs.lemmas.List.Elements.{All-nil, All-head, All-tail, All-take, All-get_or}
 use Rattle.gate_journal.specs.Journal.{IsJournal, records, record_of, journal_length}
-use Rattle.gate_journal.specs.Layout.{greatest_limit, fresh_length}
+use Rattle.gate_journal.specs.Layout.{greatest_limit}
+use Rattle.gate_journal.proofs.Store.{journal_length-push}
 use Rattle.fleet_config.specs.Fleet.{FleetConfig}
 use Rattle.fleet_config.specs.Tree.{Tree, member, id_of, is_minion}
-use Rattle.byteorder.specs.Endian.{big_bytes}
 use Rattle.exec_functions.specs.declared.holdings.Holdings.{Holdings}
 use Rattle.minion_core.specs.Flat.{held_by, held_after}
 use Rattle.salt_value.specs.Spelling.{concatenation}
@@ -41,11 +41,15 @@ map_at f [] n d c within = absurd (omega (arith, within))
 map_at f (x ∷ xs) zero d c within = refl
 map_at f (x ∷ xs) (suc n) d c within = map_at f xs n d c (omega (arith, within))
 
+take_next : {A : Type 0} (xs : List A) (n : ℕ) (d : A) → n < length xs → take (suc n) xs ≡ take n xs ++ slice_index_or xs n d ∷ []
+take_next [] n d within = absurd (omega (arith, within))
+take_next (x ∷ xs) zero d within = refl
+take_next (x ∷ xs) (suc n) d within = ap (λ l. x ∷ l) (take_next xs n d (omega (arith, within)))
+
 -- one element more of a front
-pub take_more : {A : Type 0} (xs : List A) (n : ℕ) (d : A) → n < length xs → take (n + 1) xs ≡ take n xs ++ slice_index_or xs n d ∷ []
-take_more [] n d within = absurd (omega (arith, within))
-take_more (x ∷ xs) zero d within = refl
-take_more (x ∷ xs) (suc n) d within = ap (λ l. x ∷ l) (take_more xs n d (omega (arith, within)))
+take_more : {A : Type 0} (xs : List A) (n : ℕ) (d : A) → n < length xs → take (n + 1) xs ≡ take n xs ++ slice_index_or xs n d ∷ []
+take_more {A = A} xs n d within =
+    subst (λ (k : ℕ). take k xs ≡ take n xs ++ slice_index_or xs n d ∷ []) (let e : suc n ≡ n + 1 = omega arith in e) (take_next xs n d within)
 
 -- ---- records are what their bytes are
 
@@ -130,30 +134,52 @@ behind n xs ys few =
 -- a record has as many bytes as entries
 done_some : (seq : ℕ) (changed : Option Changed) (entries : List Entry) → length entries ≤ length (record_bytes (Done seq changed entries))
 done_some seq changed entries =
-    let all = behind (length entries) (wire.number seq) _ (behind (length entries) (changed_bytes changed) _ (behind (length entries) (wire.number (length entries)) _ (entries_some entries))) in
+    let spelled : List ℕ = wire.number (length entries) ++ concatenation (map wire.entry entries) in
+    let some = behind (length entries) (wire.number (length entries)) (concatenation (map wire.entry entries)) (entries_some entries) in
+    let all = behind (length entries) (wire.number seq) (changed_bytes changed ++ spelled) (behind (length entries) (changed_bytes changed) spelled some) in
     omega (arith, all)
+
+-- a record in a journal is longer than its payload
+record_long : (payload : List ℕ) → length payload + 1 ≤ length (record_of payload)
+record_long payload =
+    let grown = journal_length-push [] payload in
+    let one = append-nil (record_of payload) in
+    let bytes : length (records (payload ∷ [])) ≡ length (record_of payload) = ap (λ (l : List ℕ). length l) one in
+    omega (arith, grown, bytes)
 
 -- the bytes of one payload more
 step : (payload : List ℕ) (payloads : List (List ℕ)) (n k : ℕ) → n ≤ length payload + 1 → k ≤ length (records payloads) → n + k ≤ length (records (payload ∷ payloads))
 step payload payloads n k few rest =
     let all = length-append (record_of payload) (records payloads) in
-    let here = length-append (big_bytes 4 (length payload)) payload in
+    let here = record_long payload in
     omega (arith, all, here, few, rest)
 
-up_short : (b : ℕ) (id minion : List ℕ) (entry : Entry) (rs : List Deed) (same : Bool) → length (log_after b id rs) ≤ length (records (map record_bytes rs))
-    → length (if same then entry ∷ log_after b id rs else log_after b id rs) ≤ length (records (map record_bytes (Up minion entry ∷ rs)))
-up_short b id minion entry rs true rest = step (record_bytes (Up minion entry)) (map record_bytes rs) 1 (length (log_after b id rs)) (omega arith) rest
-up_short b id minion entry rs false rest = step (record_bytes (Up minion entry)) (map record_bytes rs) 0 (length (log_after b id rs)) (omega arith) rest
+-- a payload more leaves no fewer bytes
+step_over : (payload : List ℕ) (payloads : List (List ℕ)) (k : ℕ) → k ≤ length (records payloads) → k ≤ length (records (payload ∷ payloads))
+step_over payload payloads k rest =
+    let more = step payload payloads 0 k (omega arith) rest in
+    omega (arith, more)
+
+-- and one more than there were
+step_one : (payload : List ℕ) (payloads : List (List ℕ)) (k : ℕ) → k ≤ length (records payloads) → suc k ≤ length (records (payload ∷ payloads))
+step_one payload payloads k rest =
+    let more = step payload payloads 1 k (omega arith) rest in
+    omega (arith, more)
+
+up_short : (b : ℕ) (id : List ℕ) (payload : List ℕ) (entry : Entry) (rs : List Deed) (same : Bool) → length (log_after b id rs) ≤ length (records (map record_bytes rs))
+    → length (if same then entry ∷ log_after b id rs else log_after b id rs) ≤ length (records (payload ∷ map record_bytes rs))
+up_short b id payload entry rs true rest = step_one payload (map record_bytes rs) (length (log_after b id rs)) rest
+up_short b id payload entry rs false rest = step_over payload (map record_bytes rs) (length (log_after b id rs)) rest
 
 -- no log has more entries than the records have bytes in a journal
 log_short : (b : ℕ) (id : List ℕ) (rs : List Deed) → length (log_after b id rs) ≤ length (records (map record_bytes rs))
 log_short b id [] = omega arith
-log_short b id (Publish job ∷ rs) = step (record_bytes (Publish job)) (map record_bytes rs) 0 (length (log_after b id rs)) (omega arith) (log_short b id rs)
-log_short b id (Intake job ∷ rs) = step (record_bytes (Intake job)) (map record_bytes rs) 0 (length (log_after b id rs)) (omega arith) (log_short b id rs)
-log_short b id (Fire event ∷ rs) = step (record_bytes (Fire event)) (map record_bytes rs) 0 (length (log_after b id rs)) (omega arith) (log_short b id rs)
-log_short b id (React items ∷ rs) = step (record_bytes (React items)) (map record_bytes rs) 0 (length (log_after b id rs)) (omega arith) (log_short b id rs)
-log_short b id (Up minion entry ∷ rs) = up_short b id minion entry rs (bytes_eq minion id) (log_short b id rs)
-log_short b id (Boot ∷ rs) = step (record_bytes Boot) (map record_bytes rs) 1 (length (log_after (b + 1) id rs)) (omega arith) (log_short (b + 1) id rs)
+log_short b id (Publish job ∷ rs) = step_over (record_bytes (Publish job)) (map record_bytes rs) (length (log_after b id rs)) (log_short b id rs)
+log_short b id (Intake job ∷ rs) = step_over (record_bytes (Intake job)) (map record_bytes rs) (length (log_after b id rs)) (log_short b id rs)
+log_short b id (Fire event ∷ rs) = step_over (record_bytes (Fire event)) (map record_bytes rs) (length (log_after b id rs)) (log_short b id rs)
+log_short b id (React items ∷ rs) = step_over (record_bytes (React items)) (map record_bytes rs) (length (log_after b id rs)) (log_short b id rs)
+log_short b id (Up minion entry ∷ rs) = up_short b id (record_bytes (Up minion entry)) entry rs (bytes_eq minion id) (log_short b id rs)
+log_short b id (Boot ∷ rs) = step_one (record_bytes Boot) (map record_bytes rs) (length (log_after (b + 1) id rs)) (log_short (b + 1) id rs)
 log_short b id (Done seq changed entries ∷ rs) =
     let all = length-append entries (log_after b id rs) in
     let some = done_some seq changed entries in
@@ -186,7 +212,9 @@ room_for own rs (Done seq changed entries) small =
 -- a front of payloads and the one behind it are no longer than all of them
 front_short : (payloads : List (List ℕ)) (n : ℕ) → n < length payloads → length (records (take n payloads)) + length (slice_index_or payloads n []) ≤ length (records payloads)
 front_short [] n within = absurd (omega (arith, within))
-front_short (payload ∷ payloads) zero within = step payload payloads (length payload) 0 (omega arith) (omega arith)
+front_short (payload ∷ payloads) zero within =
+    let more = step payload payloads (length payload) 0 (omega arith) (omega arith) in
+    omega (arith, more)
 front_short (payload ∷ payloads) (suc n) within =
     let rest = front_short payloads n (omega (arith, within)) in
     let all = length-append (record_of payload) (records payloads) in

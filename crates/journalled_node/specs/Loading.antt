@@ -1,5 +1,5 @@
 -- What a load of a node answers for the bytes of a disk, and what it leaves there.
-use Rattle.std.specs.Prelude.{◌≡◌, ◌⊎◌, ℕ, ◌+◌, ◌-◌, ◌<◌, nat_le, ⊤, Bool, true, false, List, [], map, length, take, Option, None, Some, Result, Ok, Err, IfOk, OnOk, IsErrOf, slice_index_or, if◌then◌else◌}
+use Rattle.std.specs.Prelude.{◌≡◌, ◌⊎◌, ℕ, ◌+◌, ◌-◌, ◌<◌, ◌≤◌, nat_le, ⊤, Bool, true, false, List, [], map, length, take, Option, None, Some, Result, Ok, Err, IfOk, OnOk, IsErrOf, slice_index_or, if◌then◌else◌}
 use Rattle.salt_disk.specs.declared.disk.Disk.{Ghosts}
 use Rattle.salt_disk.specs.declared.disk.Part.{Part}
 use Rattle.salt_disk.specs.declared.disk.Part.TheVariants.{Even}
