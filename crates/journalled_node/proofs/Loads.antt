@@ -2,6 +2,7 @@
 use Rattle.std.proofs.Common.{◌≡◌, ℕ, ◌+◌, ◌-◌, ◌<◌, ◌≤◌, ◌∙◌, sym, ap, refl, subst, inl, inr, arith, Bool, true, false, List, [], ◌∷◌, ◌++◌, length, nat_le, Option, None, Some, Result, Ok, Err}
 use Rattle.std.specs.Prelude.{◌||◌, ◌⊎◌, map, IfOk, IfErr, OnOk, IsErrOf, if◌then◌else◌}
 use Rattle.std.proofs.lemmas.Bool.{le-leb, leb-true}
+use Rattle.salt_outside.specs.Causes.{CountsFaults, Rose}
 use Rattle.salt_disk.specs.declared.disk.Disk.{Ghosts}
 use Rattle.salt_disk.specs.declared.disk.Part.{Part}
 use Rattle.salt_disk.specs.declared.disk.Part.TheVariants.{Root, Even}
@@ -299,8 +300,8 @@ read_fault t me image (n.Full length limit) told = absurd told
 read_fault t me image n.Disk told = tt
 
 fewer : (calls : ℕ) (b : Bool) → nat_le 3 calls ≡ b → (3 ≤ calls → ⊥) → b ≡ false
-fewer calls true e no = absurd (no (leb-true 3 calls e))
-fewer calls false e no = refl
+fewer calls true e never = absurd (never (leb-true 3 calls e))
+fewer calls false e never = refl
 
 module _ {D : Type 0} (disk : Ghosts D) (old new : D) (f : FleetConfig) (me : ℕ) where
   settled_damage : (fault : LoadFault) → ReadsNode disk old new f me (Err fault) → IsDamage {T = JournalledState} (Err fault) → AreSettled (disk.state new)
@@ -355,6 +356,34 @@ started_node : (f : FleetConfig) (me : ℕ) (rs : List Deed) (start : Option Dee
 started_node f me rs None = refl
 started_node f me rs (Some deed) = loaded_more f me rs deed
 
+-- the node that is loaded, where the start was added that its place has
+pub started_from : (f : FleetConfig) (me : ℕ) (p q : PlacedNode) → p ≡ loaded_node f me p.state.records → q ≡ placed_after_any (start_at p.fleet.tree p.me) p
+    → q ≡ loaded_node f me (with_if_any (start_at f.tree me) p.state.records)
+started_from f me p q is grown =
+    grown ∙ ap (λ (n : PlacedNode). placed_after_any (start_at n.fleet.tree n.me) p) is ∙ ap (placed_after_any (start_at f.tree me)) is
+    ∙ started_node f me p.state.records (start_at f.tree me)
+
+pub loaded_at : (f : FleetConfig) (me : ℕ) (p q : PlacedNode) (after : JournalState) → p ≡ loaded_node f me p.state.records
+    → q ≡ placed_after_any (start_at p.fleet.tree p.me) p → after.is_down ≡ false → IsLoadedAt f me (node_over q after false)
+loaded_at f me p q after is grown up =
+    let whole = started_from f me p q is grown in
+    record { node = whole ∙ ap (loaded_node f me) (sym (ap (λ (n : PlacedNode). n.state.records) whole)); up = ap (λ (b : Bool). b || false) up }
+
+unfailed : {F : Type 0} (before mid now : ℕ) → (F → ⊥) → mid ≡ before → now ≡ mid → mid ≤ now → CountsFaults F before now
+unfailed before mid now never first second later =
+    record { rose = λ e. absurd (never e); kept = λ still. second ∙ first; later = subst (λ (k : ℕ). k ≤ now) first later }
+
+-- the count of faults over a load whose start was not kept
+pub start_counts : {S T U : Type 0} (x : S) (node : JournalledState) (deed : Option Deed) (fault : AppendFault) (before mid now : ℕ) → IsStartFault node deed fault
+    → CountsFaults (IsErrOf {T = S} (Ok x) n.Disk) before mid → CountsFaults (IsErrOf {T = T} (Err fault) a.Disk) mid now
+    → CountsFaults (IsErrOf {T = U} (Err (unstarted fault)) n.Disk) before now
+start_counts x node deed a.Down before mid now why first second = absurd why
+start_counts x node deed a.NoMemory before mid now why first second = unfailed before mid now (λ e. absurd cc) (first.kept (λ e. absurd cc)) (second.kept (λ e. absurd cc)) second.later
+start_counts x node deed (a.Full length limit) before mid now why first second = unfailed before mid now (λ e. absurd cc) (first.kept (λ e. absurd cc)) (second.kept (λ e. absurd cc)) second.later
+start_counts x node deed a.Disk before mid now why first second =
+    let same : mid ≡ before = first.kept (λ e. absurd cc) in
+    record { rose = λ e. subst (λ (k : ℕ). Rose k now) same (second.rose refl); kept = λ never. absurd (never refl); later = subst (λ (k : ℕ). k ≤ now) same second.later }
+
 late_stop : (calls : ℕ) → 3 ≤ calls → (b : Bool) → nat_le 3 calls ≡ b → b ≡ true
 late_stop calls more true e = refl
 late_stop calls more false e = let wrong : true ≡ false = sym (le-leb 3 calls more) ∙ e in absurd cc
@@ -368,7 +397,7 @@ module _ {D : Type 0} (disk : Ghosts D) (old mid new : D) (f : FleetConfig) (me 
   pub start_is : start_at p.fleet.tree p.me ≡ start_at f.tree me
   start_is = ap (λ (n : PlacedNode). start_at n.fleet.tree n.me) is
 
-  abbrev three : Passes 3 (disk.fuse old) × (disk.fuse mid ≡ fuse_after 3 (disk.fuse old))
+  three : Passes 3 (disk.fuse old) × (disk.fuse mid ≡ fuse_after 3 (disk.fuse old))
   three = read.passed (λ e. absurd cc) (λ e. absurd cc)
 
   length_is : j.length ≡ content_length (records_content p.state.records)
@@ -381,12 +410,12 @@ module _ {D : Type 0} (disk : Ghosts D) (old mid new : D) (f : FleetConfig) (me 
       (λ image may. inl may) (λ image here. inr (record { limit = j.limit; records = p.state.records; log = read.records; here = here }))
 
   -- what is left where the node is up
-  pub kept_started : (q : PlacedNode) (after : JournalState) → disk.is_told → after.is_down ≡ false → q ≡ placed_after_any (start_at f.tree me) p
+  pub kept_started : (q : PlacedNode) (after : JournalState) → disk.is_told → after.is_down ≡ false → q ≡ placed_after_any (start_at p.fleet.tree p.me) p
       → KeepsByCall disk mid new loaded (node_over q after false) (start_at f.tree me) Answered
       → KeepsByLoad disk old new f.tree me (Ok (node_over q after false))
   kept_started q after told up grown call =
       let whole : q.state.records ≡ with_if_any (start_at f.tree me) p.state.records =
-          ap (λ (n : PlacedNode). n.state.records) (grown ∙ ap (placed_after_any (start_at f.tree me)) is ∙ started_node f me p.state.records (start_at f.tree me)) in
+          ap (λ (n : PlacedNode). n.state.records) (started_from f me p q is grown) in
       record {
         any_moment = moment (node_over q after false) Answered told call;
         stands = call.stands told (ap (λ (b : Bool). b || false) up);
@@ -400,14 +429,14 @@ module _ {D : Type 0} (disk : Ghosts D) (old mid new : D) (f : FleetConfig) (me 
       }
 
   -- which node is loaded
-  pub loaded_from : (q : PlacedNode) (after : JournalState) → after.limit ≡ j.limit → q ≡ placed_after_any (start_at f.tree me) p → HadRoom loaded (start_at f.tree me)
+  pub loaded_from : (q : PlacedNode) (after : JournalState) → after.limit ≡ j.limit → q ≡ placed_after_any (start_at p.fleet.tree p.me) p → HadRoom loaded (start_at f.tree me)
       → IsLoadedFrom f me (bytes_in (disk.state old)) (node_over q after false)
   loaded_from q after limits grown room = record {
     records = p.state.records;
     log = subst (λ (k : ℕ). HasRecordsAt f.tree me k p.state.records (bytes_in (disk.state old))) (sym limits) read.records;
     room = λ minion. subst (λ (k : ℕ). content_length (records_content p.state.records) + record_overhead + 1 ≤ k) (sym limits)
         (subst (λ (k : ℕ). k + record_overhead + 1 ≤ j.limit) length_is (room_told loaded (is_minion f.tree me) room minion));
-    node = grown ∙ ap (placed_after_any (start_at f.tree me)) is ∙ started_node f me p.state.records (start_at f.tree me);
+    node = started_from f me p q is grown;
   }
 
   -- why a start was not kept, as a fault of the load
@@ -415,14 +444,14 @@ module _ {D : Type 0} (disk : Ghosts D) (old mid new : D) (f : FleetConfig) (me 
   start_fault a.NoMemory told = tt
   start_fault a.Down told = absurd told
   start_fault a.Disk told = tt
-  start_fault (a.Full length limit) told =
-      let full = answers_full f.tree me loaded (is_minion f.tree me) length limit told in
+  start_fault (a.Full long limit) told =
+      let full = answers_full f.tree me loaded (is_minion f.tree me) long limit told in
       record {
         records = p.state.records;
         minion = full.0;
-        log = subst (λ (k : ℕ). HasRecordsAt f.tree me k p.state.records (bytes_in (disk.state old))) (sym full.2.0) read.records;
+        log = subst (λ (k : ℕ). HasRecordsAt f.tree me k p.state.records (bytes_in (disk.state old))) (sym full.2) read.records;
         long = full.1 ∙ ap (λ (k : ℕ). k + record_overhead + 1) length_is;
-        over = full.2.1;
+        over = full.3;
       }
 
   module _ (law : HasOneRecord) (one_log : LogsAreOne) (told : disk.is_told) (after : JournalledState) where
@@ -453,7 +482,7 @@ module _ {D : Type 0} (disk : Ghosts D) (old mid new : D) (f : FleetConfig) (me 
       full = λ length limit e image may.
           let limits : most ≡ limit = cc in
           let full = answers_full f.tree me loaded (is_minion f.tree me) long most why in
-          let same : j.limit ≡ limit = sym full.2.0 ∙ limits in
+          let same : j.limit ≡ limit = sym full.2 ∙ limits in
           (p.state.records, subst (λ (k : ℕ). HasRecordsAt f.tree me k p.state.records (bytes_in (disk.state old))) same read.records,
           subst (λ (k : ℕ). HasRecords k p.state.records image) same (call.left told image may));
       passed = tt; not_passed = λ e. absurd cc; stopped = λ e. absurd cc;

@@ -9,9 +9,9 @@ ghost use Rattle.journal_records.specs.Limits.{RecordFits};
 ghost use Rattle.node_core.specs.Node.{empty_node};
 ghost use Rattle.node_core.specs.NextRecords.{MayAdd, placed_after};
 ghost use Rattle.journalled_node.specs.declared.fault.LoadFault.TheVariants.{Damaged};
-ghost use Rattle.journalled_node.specs.State.{HasRecordsOf};
+ghost use Rattle.journalled_node.specs.State.{HasRecordsOf, StandsIfUp};
 ghost use Rattle.journalled_node.specs.Calls.{KeepsByCall, HadRoom, append_end, node_over};
-ghost use Rattle.journalled_node.specs.Loading.{start_at, IsLoadedAt, IsLoadedFrom, IsLoadFault, AnswersEachNode, KeepsByLoad};
+ghost use Rattle.journalled_node.specs.Loading.{start_at, IsLoadedAt, IsLoadedFrom, IsLoadFault, KeepsByLoad};
 ghost use Rattle.journalled_node.specs.Starts.{AddsIfNext, AddsPayload, IsNodeOf, ReadsPayloads, IsPayloadFault, IsStartFault, MayAddIfAny, LacksStartRoom, placed_after_any, IsReadAt, ReadsNode};
 
 use crate::fault::{unread, unstarted};
@@ -227,13 +227,12 @@ pub fn load<'f, D: Disk>(
 ) -> Result<JournalledNode<'f>, LoadFault>
     requires within { me < length fleet.now.tree }
     ensures place { IfOk result (IsLoadedAt fleet.now me) }
+    ensures stands { IfOk result (StandsIfUp D.Disk disk.new) }
     ensures ok { D.is_told → IfOk result (IsLoadedFrom fleet.now me (bytes_in (D.state disk.old))) }
     ensures journal { D.is_told
         → KeepsByLoad D.Disk disk.old disk.new fleet.now.tree me result }
     ensures fault { D.is_told
         → IfErr result (IsLoadFault fleet.now.tree me (bytes_in (D.state disk.old))) }
-    ensures complete { D.is_told
-        → AnswersEachNode fleet.now me (bytes_in (D.state disk.old)) result }
     ensures faults { CountsFailures D.faults LoadFault.Disk disk.old disk.new result }
 {
     records_read_back();

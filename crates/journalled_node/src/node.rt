@@ -17,9 +17,10 @@ use crate::loading::load;
 use crate::publishing::publish;
 use crate::taking::take;
 use crate::{LoadFault, PublishFault, TakeFault};
-use checkpoint_log::Log;
+use checkpoint_log::{Log, logs_are_one};
 use fleet_config::Fleet;
 use gate_journal::CreateFault;
+use journal_records::records_read_back;
 use node_core::Node;
 use salt_disk::Disk;
 use salt_value::{Jid, NodeId, Value, Word};
@@ -94,6 +95,7 @@ impl<'f> JournalledNode<'f> {
     ) -> Result<JournalledNode<'f>, LoadFault>
         requires within { me < length fleet.now.tree }
         ensures place { IfOk result (IsLoadedAt fleet.now me) }
+        ensures stands { IfOk result (StandsIfUp D.Disk disk.new) }
         ensures ok { D.is_told
             → IfOk result (IsLoadedFrom fleet.now me (bytes_in (D.state disk.old))) }
         ensures journal { D.is_told
@@ -104,6 +106,8 @@ impl<'f> JournalledNode<'f> {
             → AnswersEachNode fleet.now me (bytes_in (D.state disk.old)) result }
         ensures faults { CountsFailures D.faults LoadFault.Disk disk.old disk.new result }
     {
+        records_read_back();
+        logs_are_one();
         load(alloc, fleet, me, disk)
     }
 
