@@ -81,10 +81,10 @@ module _ (law : HasOneRecord) (one_log : LogsAreOne) (t : Tree) (me : ℕ) (imag
   both_wrong part other at place is also one two =
       let same = one_log one.limit two.limit one.content two.content image one.log two.log in
       let numbers : one.number ≡ two.number =
-          one_wrong law t me one.content.rest one.number two.number one.first (subst (λ (c : LogContent). IsFirstWrong t me c.rest two.number) (sym same.1) two.first) in
+      one_wrong law t me one.content.rest one.number two.number one.first (subst (λ (c : LogContent). IsFirstWrong t me c.rest two.number) (sym same.1) two.first) in
       let places : at ≡ place =
-          one.place ∙ ap (λ (k : ℕ). gate_place (record { first = first_gate; items = one.content.rest }) k) numbers
-          ∙ ap (λ (c : LogContent). gate_place (record { first = first_gate; items = c.rest }) two.number) same.1 ∙ sym two.place in
+      one.place ∙ ap (λ (k : ℕ). gate_place (record { first = first_gate; items = one.content.rest }) k) numbers
+      ∙ ap (λ (c : LogContent). gate_place (record { first = first_gate; items = c.rest }) two.number) same.1 ∙ sym two.place in
       cc
 
   both_full : (length long limit most : ℕ) → LacksRoomToStart t me image length limit → LacksRoomToStart t me image long most → n.Full length limit ≡ n.Full long most
@@ -92,7 +92,7 @@ module _ (law : HasOneRecord) (one_log : LogsAreOne) (t : Tree) (me : ℕ) (imag
       let same = same_records limit most one.records two.records one.log two.log in
       let limits = same.0 in
       let lengths : length ≡ long =
-          one.long ∙ ap (λ (l : List Deed). content_length (records_content l) + record_overhead + 1) same.1 ∙ sym two.long in
+      one.long ∙ ap (λ (l : List Deed). content_length (records_content l) + record_overhead + 1) same.1 ∙ sym two.long in
       cc
 
   -- bytes have one fault
@@ -242,14 +242,17 @@ module _ {D : Type 0} (disk : Ghosts D) (old new : D) where
       fault_read (Err n.Disk) told = tt
       fault_read (Err (n.Damaged part at)) told =
           let there = log_there j (content_of content) holds bytes in
-          inr (told.0, record {
-            limit = j.limit;
-            content = content_of content;
-            log = there;
-            number = told.1.number;
-            first = is_wrong f me j.limit content.rest.items (bytes_in (disk.state old) Even) told.1.number there.rest told.1.stops;
-            place = told.1.place ∙ ap (λ (first : ℕ). gate_place (record { first = first; items = content.rest.items }) told.1.number) begins;
-          })
+          inr (
+            told.0,
+            record {
+              limit = j.limit;
+              content = content_of content;
+              log = there;
+              number = told.1.number;
+              first = is_wrong f me j.limit content.rest.items (bytes_in (disk.state old) Even) told.1.number there.rest told.1.stops;
+              place = told.1.place ∙ ap (λ (first : ℕ). gate_place (record { first = first; items = content.rest.items }) told.1.number) begins;
+            },
+          )
 
       -- the node of a log that was loaded
       pub read_there : LeavesAsBefore disk old new → AreSettled (disk.state new) → Passes 3 (disk.fuse old) × (disk.fuse new ≡ fuse_after 3 (disk.fuse old))
@@ -271,22 +274,44 @@ module _ {D : Type 0} (disk : Ghosts D) (old new : D) where
         → BurnsByLoad {T = JournalState × LoadedContent} (disk.fuse old) (disk.fuse new) (Err fault) → TellsLogFault {T = JournalState × LoadedContent} (bytes_in (disk.state old)) (Err fault)
         → ReadsNode disk old new f me (Err (unread fault))
     read_not log.NoMemory moment bytes rests burns told = record {
-      any_moment = moment; bytes = bytes; settled = λ failed lacked. absurd (lacked refl); passed = λ failed lacked. absurd (lacked refl);
-      not_passed = λ e. absurd cc; records = tt; stands = tt; fault = tt;
+      any_moment = moment;
+      bytes = bytes;
+      settled = λ failed lacked. absurd (lacked refl);
+      passed = λ failed lacked. absurd (lacked refl);
+      not_passed = λ e. absurd cc;
+      records = tt;
+      stands = tt;
+      fault = tt;
     }
     read_not log.Disk moment bytes rests burns told = record {
-      any_moment = moment; bytes = bytes; settled = λ failed lacked. absurd (failed refl); passed = λ failed lacked. absurd (failed refl);
-      not_passed = λ e passes. burns.not_passed refl passes; records = tt; stands = tt; fault = tt;
+      any_moment = moment;
+      bytes = bytes;
+      settled = λ failed lacked. absurd (failed refl);
+      passed = λ failed lacked. absurd (failed refl);
+      not_passed = λ e passes. burns.not_passed refl passes;
+      records = tt;
+      stands = tt;
+      fault = tt;
     }
     read_not log.NotAJournal moment bytes rests burns told = record {
-      any_moment = moment; bytes = bytes; settled = λ failed lacked. rests (λ e. absurd cc) (λ e. absurd cc);
+      any_moment = moment;
+      bytes = bytes;
+      settled = λ failed lacked. rests (λ e. absurd cc) (λ e. absurd cc);
       passed = λ failed lacked. burns.passed (λ e. absurd cc) (λ e. absurd cc);
-      not_passed = λ e. absurd cc; records = tt; stands = tt; fault = told log.NotAJournal refl;
+      not_passed = λ e. absurd cc;
+      records = tt;
+      stands = tt;
+      fault = told log.NotAJournal refl;
     }
     read_not (log.Damaged part at) moment bytes rests burns told = record {
-      any_moment = moment; bytes = bytes; settled = λ failed lacked. rests (λ e. absurd cc) (λ e. absurd cc);
+      any_moment = moment;
+      bytes = bytes;
+      settled = λ failed lacked. rests (λ e. absurd cc) (λ e. absurd cc);
       passed = λ failed lacked. burns.passed (λ e. absurd cc) (λ e. absurd cc);
-      not_passed = λ e. absurd cc; records = tt; stands = tt; fault = inl (told (log.Damaged part at) refl);
+      not_passed = λ e. absurd cc;
+      records = tt;
+      stands = tt;
+      fault = inl (told (log.Damaged part at) refl);
     }
 
 -- ---- a load that did not come to its start
@@ -324,7 +349,7 @@ module _ {D : Type 0} (disk : Ghosts D) (old new : D) (f : FleetConfig) (me : �
       → MayLeave (disk.state new) image → HasRecords limit (with_if_any (start_by_stop f.tree me calls pick) records) image
   early_stop fault read e rests limit records has calls pick image armed may =
       let few : nat_le 3 calls ≡ false =
-          fewer calls (nat_le 3 calls) refl (λ more. read.not_passed (disk_fault fault e) (subst (Passes 3) (sym armed) more)) in
+      fewer calls (nat_le 3 calls) refl (λ more. read.not_passed (disk_fault fault e) (subst (Passes 3) (sym armed) more)) in
       subst (λ (late : Bool). HasRecords limit (with_if_any (if late then record_by_stop (calls - 3) pick (start_at f.tree me) else None) records) image) (sym few)
       (log_at_rest limit (records_content records) (disk.state old) image has.log rests (read.any_moment.each image (inl may)))
 
@@ -415,7 +440,7 @@ module _ {D : Type 0} (disk : Ghosts D) (old mid new : D) (f : FleetConfig) (me 
       → KeepsByLoad disk old new f.tree me (Ok (node_over q after false))
   kept_started q after told up grown call =
       let whole : q.state.records ≡ with_if_any (start_at f.tree me) p.state.records =
-          ap (λ (n : PlacedNode). n.state.records) (started_from f me p q is grown) in
+      ap (λ (n : PlacedNode). n.state.records) (started_from f me p q is grown) in
       record {
         any_moment = moment (node_over q after false) Answered told call;
         stands = call.stands told (ap (λ (b : Bool). b || false) up);
@@ -464,7 +489,7 @@ module _ {D : Type 0} (disk : Ghosts D) (old mid new : D) (f : FleetConfig) (me 
         let more : 3 ≤ calls = subst (Passes 3) armed three.0 in
         let late : nat_le 3 calls ≡ true = late_stop calls more (nat_le 3 calls) refl in
         let here : HasRecords j.limit (with_if_any (record_by_stop (calls - 3) pick (start_at f.tree me)) p.state.records) image =
-            call.stopped told refl (calls - 3) pick cut image (three.1 ∙ ap (fuse_after 3) armed) may picked in
+        call.stopped told refl (calls - 3) pick cut image (three.1 ∙ ap (fuse_after 3) armed) may picked in
         subst (λ (b : Bool). HasRecords limit (with_if_any (if b then record_by_stop (calls - 3) pick (start_at f.tree me) else None) records) image) (sym late)
         (subst (λ (k : ℕ). HasRecords k (with_if_any (record_by_stop (calls - 3) pick (start_at f.tree me)) records) image) one.0
         (subst (λ (rs : List Deed). HasRecords j.limit (with_if_any (record_by_stop (calls - 3) pick (start_at f.tree me)) rs) image) one.1 here))
@@ -474,21 +499,38 @@ module _ {D : Type 0} (disk : Ghosts D) (old mid new : D) (f : FleetConfig) (me 
         → KeepsByCall disk mid new loaded after (start_at f.tree me) (append_end {T = Unit {0}} (Err fault)) → KeepsByLoad disk old new f.tree me (Err (unstarted fault))
     kept_unstarted a.Down why call = absurd why
     kept_unstarted a.NoMemory why call = record {
-      any_moment = moment after _ told call; stands = tt; left = tt; kept = λ damage. absurd damage; full = λ length limit e. absurd cc;
-      passed = tt; not_passed = λ e. absurd cc; stopped = λ e. absurd cc;
+      any_moment = moment after _ told call;
+      stands = tt;
+      left = tt;
+      kept = λ damage. absurd damage;
+      full = λ length limit e. absurd cc;
+      passed = tt;
+      not_passed = λ e. absurd cc;
+      stopped = λ e. absurd cc;
     }
     kept_unstarted (a.Full long most) why call = record {
-      any_moment = moment after _ told call; stands = tt; left = tt; kept = λ damage. absurd damage;
+      any_moment = moment after _ told call;
+      stands = tt;
+      left = tt;
+      kept = λ damage. absurd damage;
       full = λ length limit e image may.
           let limits : most ≡ limit = cc in
           let full = answers_full f.tree me loaded (is_minion f.tree me) long most why in
-          let same : j.limit ≡ limit = sym full.2 ∙ limits in
-          (p.state.records, subst (λ (k : ℕ). HasRecordsAt f.tree me k p.state.records (bytes_in (disk.state old))) same read.records,
-          subst (λ (k : ℕ). HasRecords k p.state.records image) same (call.left told image may));
-      passed = tt; not_passed = λ e. absurd cc; stopped = λ e. absurd cc;
+          let same : j.limit ≡ limit = sym full.2 ∙ limits in (
+            p.state.records,
+            subst (λ (k : ℕ). HasRecordsAt f.tree me k p.state.records (bytes_in (disk.state old))) same read.records,
+            subst (λ (k : ℕ). HasRecords k p.state.records image) same (call.left told image may),
+          );
+      passed = tt;
+      not_passed = λ e. absurd cc;
+      stopped = λ e. absurd cc;
     }
     kept_unstarted a.Disk why call = record {
-      any_moment = moment after _ told call; stands = tt; left = tt; kept = λ damage. absurd damage; full = λ length limit e. absurd cc;
+      any_moment = moment after _ told call;
+      stands = tt;
+      left = tt;
+      kept = λ damage. absurd damage;
+      full = λ length limit e. absurd cc;
       passed = tt;
       not_passed = λ e passes. call.not_passed told refl
           (subst (Passes (changing_calls (start_at f.tree me))) (sym three.1) (passes_split 3 (changing_calls (start_at f.tree me)) (disk.fuse old) passes).1);

@@ -81,11 +81,11 @@ none_wrong law t me payloads rs n are first =
     let count : length payloads ≡ length rs = ap (λ (l : List (List ℕ)). length l) are.spelled ∙ length-map rs record_bytes in
     let inside : n < length rs = omega (arith, first.inside, count) in
     let fronts : map record_bytes first.records ≡ map record_bytes (take n rs) =
-        sym first.before.spelled ∙ ap (λ (l : List (List ℕ)). take n l) are.spelled ∙ map_take record_bytes n rs in
+    sym first.before.spelled ∙ ap (λ (l : List (List ℕ)). take n l) are.spelled ∙ map_take record_bytes n rs in
     let same : first.records ≡ take n rs = one_list law first.records (take n rs) first.before.right.fit (All-take RecordFits n rs are.right.fit) fronts in
     let deed : Deed = slice_index_or rs n Boot in
     let is : slice_index_or payloads n [] ≡ record_bytes deed =
-        ap (λ (l : List (List ℕ)). slice_index_or l n []) are.spelled ∙ map_at record_bytes rs n Boot [] inside in
+    ap (λ (l : List (List ℕ)). slice_index_or l n []) are.spelled ∙ map_at record_bytes rs n Boot [] inside in
     let may : is_next_record t me (take n rs) deed ≡ true = next_at t me [] rs n inside are.right.right in
     let may_not : is_next_record t me first.records deed ≡ false = first.wrong deed (All-get_or RecordFits rs n Boot inside are.right.fit) is in
     let wrong : true ≡ false = sym may ∙ ap (λ (l : List Deed). is_next_record t me l deed) (sym same) ∙ may_not in
@@ -272,8 +272,8 @@ node_more f me payloads n old new inside before (deed, is, may, made) =
     let next : is_next_record f.tree me rs deed ≡ true = sym (ap (λ (n : PlacedNode). is_next_record n.fleet.tree n.me rs deed) before.is) ∙ may.next in
     let right : AreRecordsAt f.tree me (rs ++ deed ∷ []) = records_more f.tree me rs deed before.bytes.right next may.fits in
     let spelled : take (n + 1) payloads ≡ map record_bytes (rs ++ deed ∷ []) =
-        take_more payloads n [] inside ∙ ap (λ (l : List (List ℕ)). l ++ slice_index_or payloads n [] ∷ []) before.bytes.spelled
-        ∙ ap (λ (p : List ℕ). map record_bytes rs ++ p ∷ []) is ∙ sym (map-append record_bytes rs (deed ∷ [])) in
+    take_more payloads n [] inside ∙ ap (λ (l : List (List ℕ)). l ++ slice_index_or payloads n [] ∷ []) before.bytes.spelled
+    ∙ ap (λ (p : List ℕ). map record_bytes rs ++ p ∷ []) is ∙ sym (map-append record_bytes rs (deed ∷ [])) in
     record {
       is = whole ∙ ap (loaded_node f me) (sym recorded);
       bytes = subst (AreBytesOf f.tree me (take (n + 1) payloads)) (sym recorded) (record { spelled = spelled; right = right });
