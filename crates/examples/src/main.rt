@@ -1,8 +1,14 @@
 //! Runs each script of the folder `examples`, and tells whether it writes what stands beside it.
+//!
+//! `run_example(alloc, &script, &wanted).is_as_wanted` is true where it does.
 #![tactic(auto)]
 
-use salt_outside::{MemSink, MemSource};
-use salt_replay::run_replay;
+mod example;
+mod streams;
+#[cfg(test)]
+mod tests;
+
+use example::run_example;
 use std::{fs, io};
 
 /// The scripts by their names; `NAME.out` has what `NAME.script` writes.
@@ -20,15 +26,13 @@ fn main(rt: HostRuntime) -> io::Result<()> {
     for name in NAMES {
         let script = fs::read(&rt, format!(in alloc; "{name}.script")?.as_str())?;
         let wanted = fs::read(&rt, format!(in alloc; "{name}.out")?.as_str())?;
-        let mut source = MemSource::new(script, Vec::new(alloc));
-        let mut sink = MemSink::new(alloc, Vec::new(alloc));
-        let status = run_replay(alloc, &mut source, &mut sink);
-        let told = if sink.bytes() == wanted.as_slice() {
+        let ending = run_example(alloc, &script, &wanted);
+        let told = if ending.is_as_wanted {
             "as written beside it"
         } else {
             "otherwise"
         };
-        println!(rt; "{name}: status {}, {told}", status.code)?;
+        println!(rt; "{name}: status {}, {told}", ending.code)?;
     }
     Ok(())
 }

@@ -1,8 +1,15 @@
 //! Remote execution over a tree of masters: the program.
+//!
+//! The command of its words is run over standard input and standard output, and its status is the program's:
+//! `run_command(alloc, &words, &mut source, &mut sink).code`.
 #![tactic(auto)]
 
+mod command;
+#[cfg(test)]
+mod tests;
+
+use command::{Unread, run_command};
 use salt_outside::{StdSink, StdSource};
-use salt_replay::salt_main;
 use salt_value::Text;
 use std::process::ExitCode;
 use std::{env, io};
@@ -21,13 +28,11 @@ fn words_of(rt: &HostRuntime) -> io::Result<Vec<Text>> {
 
 fn main(rt: HostRuntime) -> ExitCode {
     let alloc = rt.alloc();
-    let words = match words_of(&rt) {
-        Ok(words) => words,
-        // A word that is no UTF-8 is in no command, and no words are no command either.
-        Err(error) if matches!(error.kind(), io::ErrorKind::InvalidData) => Vec::new(alloc),
-        Err(_) => return ExitCode::from(1),
-    };
+    let words = words_of(&rt).map_err(|error| match error.kind() {
+        io::ErrorKind::InvalidData => Unread::NotUtf8,
+        _ => Unread::Other,
+    });
     let mut source = StdSource::new(rt.stdin());
     let mut sink = StdSink::new(rt.stdout());
-    ExitCode::from(salt_main(alloc, words.as_slice(), &mut source, &mut sink).code)
+    ExitCode::from(run_command(alloc, &words, &mut source, &mut sink).code)
 }
