@@ -273,7 +273,11 @@ fn does(
     steps: &[(Call, Ending)],
 ) {
     for (i, (call, ending)) in steps.iter().enumerate() {
-        assert_eq!(rt; run(rt, alloc, fleet, me, disk, *call), *ending, "step {i} at {me}");
+        assert_eq!(rt;
+            run(rt, alloc, fleet, me, disk, *call),
+            *ending,
+            "step {i} at {me}"
+        );
     }
 }
 
@@ -350,8 +354,20 @@ fn left(
 fn leaves(rt: &impl Abort, alloc: Global, fleet: &Fleet, stopped: Stopped, crash: (u8, u64)) {
     let (me, call, before, with, without) = stopped;
     for passes in 0..5 {
-        let wanted = if is_kept(passes, crash.0) { with } else { without };
-        let left = left(rt, alloc, fleet, me, call, before.saturating_add(passes), crash);
+        let wanted = if is_kept(passes, crash.0) {
+            with
+        } else {
+            without
+        };
+        let left = left(
+            rt,
+            alloc,
+            fleet,
+            me,
+            call,
+            before.saturating_add(passes),
+            crash,
+        );
         assert_eq!(rt; left, wanted, "{passes} calls at {me}");
     }
 }
@@ -486,7 +502,7 @@ fn what_is_refused_leaves_no_record(rt: HostRuntime) {
     holds(&rt, alloc, &fleet, 0, &mut disk, (1, 0));
 }
 
-// A journal of 64 bytes has room for seven starts, of six bytes each behind the first seventeen, and for no job.
+// A journal of 64 bytes has room for seven starts, of six bytes each behind the first seventeen.
 const LONG: Ending = Ending::Unloaded(LoadFault::Full {
     length: 65,
     limit: 64,
@@ -495,18 +511,36 @@ const LONG: Ending = Ending::Unloaded(LoadFault::Full {
 fn fills(rt: &impl Abort, alloc: Global, fleet: &Fleet, disk: &mut MemDisk) {
     for count in 1..10 {
         let wanted = if count <= 7 { Ending::Loaded } else { LONG };
-        assert_eq!(rt; run(rt, alloc, fleet, 2, disk, Call::Load), wanted, "load {count}");
+        assert_eq!(rt;
+            run(rt, alloc, fleet, 2, disk, Call::Load),
+            wanted,
+            "load {count}"
+        );
     }
 }
 
-fn is_full(rt: &impl Abort, ending: Ending) {
-    let full = match ending {
-        Ending::Unpublished(PublishFault::Full { length, limit }) => length > 64 && limit == 64,
-        Ending::Untaken(TakeFault::Full { length, limit }) => length > 64 && limit == 64,
-        _ => false,
-    };
-    assert!(rt; full);
-}
+// A record of such a job has 37 bytes, so that there is room for one.
+static ONE_ORDER: [(Call, Ending); 2] = [
+    (Call::Publish(7), Ending::Published),
+    (
+        Call::Publish(8),
+        Ending::Unpublished(PublishFault::Full {
+            length: 101,
+            limit: 64,
+        }),
+    ),
+];
+
+static ONE_JOB: [(Call, Ending); 2] = [
+    (Call::Job(0, 0, 7), Ending::Jobs(1)),
+    (
+        Call::Job(0, 1, 8),
+        Ending::Untaken(TakeFault::Full {
+            length: 101,
+            limit: 64,
+        }),
+    ),
+];
 
 #[test]
 fn a_full_journal(rt: HostRuntime) {
@@ -515,11 +549,11 @@ fn a_full_journal(rt: HostRuntime) {
     let mut disk = fresh(&rt, alloc, 64);
     fills(&rt, alloc, &fleet, &mut disk);
     let mut top = fresh(&rt, alloc, 64);
-    is_full(&rt, run(&rt, alloc, &fleet, 0, &mut top, Call::Publish(7)));
-    holds(&rt, alloc, &fleet, 0, &mut top, (0, 0));
+    does(&rt, alloc, &fleet, 0, &mut top, &ONE_ORDER);
+    holds(&rt, alloc, &fleet, 0, &mut top, (1, 0));
     let mut syndic = fresh(&rt, alloc, 64);
-    is_full(&rt, run(&rt, alloc, &fleet, 1, &mut syndic, Call::Job(0, 0, 7)));
-    holds(&rt, alloc, &fleet, 1, &mut syndic, (0, 0));
+    does(&rt, alloc, &fleet, 1, &mut syndic, &ONE_JOB);
+    holds(&rt, alloc, &fleet, 1, &mut syndic, (1, 0));
 }
 
 // Adds a payload to the log of a disk.
@@ -574,7 +608,7 @@ static DAMAGE: [Damage; 16] = [
     (&[b"\x02\x02m1\x01\0\0\0\0\0\x01"], 0, Some(16)),
 ];
 
-fn ending(place: Option<u64>) -> Ending {
+fn found(place: Option<u64>) -> Ending {
     match place {
         None => Ending::Loaded,
         Some(at) => Ending::Unloaded(LoadFault::Damaged {
@@ -592,7 +626,14 @@ fn with_payloads(rt: &impl Abort, alloc: Global, payloads: &[&'static [u8]]) -> 
     disk
 }
 
-fn finds(rt: &impl Abort, alloc: Global, fleet: &Fleet, me: u32, disk: &mut MemDisk, wanted: Ending) {
+fn finds(
+    rt: &impl Abort,
+    alloc: Global,
+    fleet: &Fleet,
+    me: u32,
+    disk: &mut MemDisk,
+    wanted: Ending,
+) {
     assert_eq!(rt; run(rt, alloc, fleet, me, disk, Call::Load), wanted);
 }
 
@@ -602,7 +643,7 @@ fn strange_records_are_damage(rt: HostRuntime) {
     let fleet = grown(&rt, alloc);
     for (payloads, me, place) in &DAMAGE {
         let mut disk = with_payloads(&rt, alloc, payloads);
-        finds(&rt, alloc, &fleet, *me, &mut disk, ending(*place));
+        finds(&rt, alloc, &fleet, *me, &mut disk, found(*place));
     }
 }
 
@@ -620,10 +661,10 @@ fn a_jid_that_does_not_rise_is_damage(rt: HostRuntime) {
     let mut disk = fresh(&rt, alloc, 4096);
     add(&rt, alloc, &mut disk, record.as_slice());
     finds(&rt, alloc, &fleet, 0, &mut disk, Ending::Loaded);
-    finds(&rt, alloc, &fleet, 1, &mut disk, ending(Some(16)));
+    finds(&rt, alloc, &fleet, 1, &mut disk, found(Some(16)));
     add(&rt, alloc, &mut disk, record.as_slice());
     let at = 21 + record.len() as u64;
-    finds(&rt, alloc, &fleet, 0, &mut disk, ending(Some(at)));
+    finds(&rt, alloc, &fleet, 0, &mut disk, found(Some(at)));
 }
 
 #[test]
