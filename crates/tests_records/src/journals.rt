@@ -1,6 +1,6 @@
 //! Nodes over their disks: what each call keeps, what a stop within it leaves, which records are damage, and when a journal is full. The
 //! expectations are worked out by hand from the rules.
-ghost use Rattle.std.specs.Prelude.{◌≡◌};
+ghost use Rattle.std.specs.Prelude.{◌<◌};
 ghost use Rattle.salt_wire.specs.Limits.{Within};
 ghost use Rattle.node_core.specs.Node.{IsCounted};
 ghost use Rattle.journalled_node.specs.State.{StandsIfUp};
@@ -49,7 +49,9 @@ enum Ending {
 }
 
 fn start_of(rt: &impl Abort, minion: &str, n: u32) -> Message
+    requires { n < 1000 }
     ensures value { Within result }
+    ensures counted { IsCounted result }
 {
     let minion = id(rt, minion);
     let _bytes = minion.as_bytes();
@@ -85,7 +87,7 @@ fn take_start(
     requires { StandsIfUp ⟦<MemDisk as Disk>⟧ disk.old node.old }
     ensures { StandsIfUp ⟦<MemDisk as Disk>⟧ disk.new node.new }
 {
-    if n == u32::MAX {
+    if n >= 1000 {
         return Ending::Other;
     }
     let message = start_of(rt, minion, n);
