@@ -1,5 +1,5 @@
 -- What a load of a log answers for the bytes of a disk, and when.
-use Rattle.std.specs.Prelude.{◌≡◌, ◌⊎◌, ◌==◌, ℕ, false, List, [], ◌∷◌, length, Option, Some, None, Result, Ok, Err, IfOk, OnOk, IsErrOf, if◌then◌else◌}
+use Rattle.std.specs.Prelude.{◌≡◌, ◌≤◌, ◌⊎◌, ◌==◌, ℕ, false, List, [], ◌∷◌, length, Option, Some, None, Result, Ok, Err, IfOk, OnOk, IsErrOf, if◌then◌else◌}
 use Rattle.salt_disk.specs.declared.disk.Disk.{Ghosts}
 use Rattle.salt_disk.specs.declared.disk.Part.{Part}
 use Rattle.salt_disk.specs.declared.disk.Part.TheVariants.{Root, Even}
@@ -11,11 +11,11 @@ use Rattle.salt_disk.specs.declared.disk.DiskFault.{DiskFault}
 use Rattle.salt_disk.specs.declared.disk.DiskFault.TheVariants.{Failed}
 use Rattle.gate_journal.specs.declared.fault.LoadFault.{LoadFault}
 use Rattle.gate_journal.specs.declared.fault.LoadFault.TheVariants.{NoMemory, Disk, NotAJournal, Damaged}
-use Rattle.gate_journal.specs.Layout.{first_gate}
+use Rattle.gate_journal.specs.Layout.{first_gate, greatest_limit}
 use Rattle.gate_journal.specs.Journal.{JournalState, IsJournal, journal_length}
 use Rattle.gate_journal.specs.Payloads.{PlacedPayloads}
 use Rattle.gate_journal.specs.Damage.{IsNoJournal, IsDamagedAt, IsAccepted, IsRefused}
-use Rattle.gate_journal.specs.Load.{IsUpOn}
+use Rattle.gate_journal.specs.Load.{IsUpOn, HasLength}
 use Rattle.checkpoint_log.specs.Content.{LogContent, IsLog, HoldsContent, bytes_in, content_length}
 use Rattle.checkpoint_log.specs.declared.content.LoadedContent.{LoadedContent}
 
@@ -34,6 +34,16 @@ HoldsLoaded disk result = IfOk result (λ r. HoldsContent r.0 (content_of r.1) d
 -- At Ok the log is up, and the places of its payloads are known.
 abbrev pub LoadsUpLog : {E : Type 0} → Result (JournalState × LoadedContent) E → Type 0
 LoadsUpLog result = IfOk result (λ r. (r.0.is_down ≡ false) × BeginsAtFirstGate r.1)
+
+-- The log has the length of this content, which is within its limit, and this is no greater than any journal's may be.
+pub record HasContentLength (log : JournalState) (content : LogContent) : Type 0 where
+  pub counts : log.length ≡ content_length content
+  pub within : log.length ≤ log.limit
+  pub greatest : log.limit ≤ greatest_limit
+
+-- At Ok the log has the length of what was loaded.
+abbrev pub LoadsWithin : {E : Type 0} → Result (JournalState × LoadedContent) E → Type 0
+LoadsWithin result = IfOk result (λ r. HasContentLength r.0 (content_of r.1))
 
 -- The root is a journal without a record, so that it names generation 0.
 pub record NamesFirst (image : Image) : Type 0 where
@@ -106,9 +116,15 @@ pub record IsReadAs (part : Part) (bytes : List ℕ) (result : Result (JournalSt
   pub none : IsErrOf result NotAJournal → IsNoJournal bytes
   pub damaged : (p : Part) (at : ℕ) → IsErrOf result (Damaged p at) → (p ≡ part) × IsDamagedAt at bytes
 
--- A journal that was read stands on this part and is up. No public contract cites it.
+-- A journal stands on this part and is up, with the places of its payloads and their length. No public contract cites it.
+pub record IsUpWith (part : Part) (journal : JournalState) (payloads : PlacedPayloads) : Type 0 where
+  pub journal_is : IsUpOn part journal
+  pub placed : payloads.first ≡ first_gate
+  pub size : HasLength journal payloads.items
+
+-- A journal that was read is such a one. No public contract cites it.
 abbrev pub HasUpJournal : Part → Result (JournalState × PlacedPayloads) LoadFault → Type 0
-HasUpJournal part result = IfOk result (λ r. IsUpOn part r.0 × (r.1.first ≡ first_gate))
+HasUpJournal part result = IfOk result (λ r. IsUpWith part r.0 r.1)
 
 -- What was read is an answer on the bytes. No public contract cites it.
 pub record IsOfBytes {T : Type 0} (result : Result T LoadFault) : Type 0 where

@@ -7,7 +7,7 @@ ghost use Rattle.gate_journal.specs.Calls.{LeavesAsBefore, BurnsAtOk};
 ghost use Rattle.gate_journal.specs.Append.{after_append, LeavesAsBeforeIfDown, DownExactly, FullExactly};
 ghost use Rattle.checkpoint_log.specs.Content.{StandsAsLog, bytes_in};
 ghost use Rattle.checkpoint_log.specs.Creation.{IsFreshLog, IsSettledForLog, LeavesNoPayloadIfShort, LeavesAsBeforeIfOneIsLong, TellsLong, RefusesOneLong, StaysIfOneIsLong};
-ghost use Rattle.checkpoint_log.specs.Loading.{HoldsLoaded, LoadsUpLog, TellsLogFault, AnswersEachLog, KeepsAllBytes, SettlesAll, BurnsByLoad, HasUpJournal, IsOfBytes, GivesGeneration};
+ghost use Rattle.checkpoint_log.specs.Loading.{HoldsLoaded, LoadsUpLog, LoadsWithin, TellsLogFault, AnswersEachLog, KeepsAllBytes, SettlesAll, BurnsByLoad, HasUpJournal, IsOfBytes, GivesGeneration};
 ghost use Rattle.checkpoint_log.specs.Additions.{HoldsContentAfter, LeavesOldOrNewLog, LeavesLogByAnswer, BurnsByLogAppend};
 
 use crate::LoadedContent;
@@ -74,6 +74,7 @@ impl Log {
     pub fn load<D: Disk>(alloc: Global, disk: &mut D) -> Result<(Log, LoadedContent), LoadFault>
         ensures ok { D.is_told → HoldsLoaded (D.state disk.new) result }
         ensures log { LoadsUpLog result }
+        ensures size { LoadsWithin result }
 
         // The bytes stay. After every answer but `Disk` and want of memory nothing is pending.
         ensures bytes { D.is_told → KeepsAllBytes D.Disk disk.old disk.new }
@@ -180,6 +181,7 @@ fn append_to<D: Disk>(
 fn first_generation(root: PartJournal, even: PartJournal) -> Result<(Log, LoadedContent), LoadFault>
     requires { HasUpJournal Even even }
     ensures log { LoadsUpLog result }
+    ensures size { LoadsWithin result }
     ensures part { IfOk result (λ r. r.0.part ≡ Even) }
     ensures ok { GivesGeneration root even result }
     ensures answer { IsOfBytes root → IsOfBytes even → IsOfBytes result }

@@ -1,11 +1,12 @@
 -- What a load answers for the bytes of a part, and when.
-use Rattle.std.specs.Prelude.{◌≡◌, ℕ, false, List, Result, IsErrOf, IfOk}
+use Rattle.std.specs.Prelude.{◌≡◌, ◌≤◌, ℕ, false, List, Result, IsErrOf, IfOk}
 use Rattle.salt_disk.specs.declared.disk.Disk.{Ghosts}
 use Rattle.salt_disk.specs.declared.disk.Part.{Part}
 use Rattle.salt_disk.specs.Disk.{DiskState, part_of}
 use Rattle.gate_journal.specs.declared.fault.LoadFault.{LoadFault}
 use Rattle.gate_journal.specs.declared.fault.LoadFault.TheVariants.{NotAJournal, Damaged}
-use Rattle.gate_journal.specs.Journal.{JournalState, IsJournal}
+use Rattle.gate_journal.specs.Layout.{greatest_limit}
+use Rattle.gate_journal.specs.Journal.{JournalState, IsJournal, journal_length}
 use Rattle.gate_journal.specs.Payloads.{PlacedPayloads}
 use Rattle.gate_journal.specs.Damage.{IsNoJournal, IsDamagedAt, IsAccepted, IsRefused}
 
@@ -13,6 +14,12 @@ use Rattle.gate_journal.specs.Damage.{IsNoJournal, IsDamagedAt, IsAccepted, IsRe
 pub record IsUpOn (part : Part) (journal : JournalState) : Type 0 where
   pub stands : journal.part ≡ part
   pub up : journal.is_down ≡ false
+
+-- The journal has the length of these payloads, which is within its limit, and this is no greater than any journal's may be.
+pub record HasLength (journal : JournalState) (payloads : List (List ℕ)) : Type 0 where
+  pub counts : journal.length ≡ journal_length payloads
+  pub within : journal.length ≤ journal.limit
+  pub greatest : journal.limit ≤ greatest_limit
 
 -- Where it answers `NotAJournal`, the part has none.
 abbrev pub TellsNoJournal : {T : Type 0} → DiskState → Part → Result T LoadFault → Type 0

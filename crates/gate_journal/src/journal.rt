@@ -4,7 +4,7 @@ ghost use Rattle.salt_disk.specs.Disk.{part_of, IsSettled};
 ghost use Rattle.gate_journal.specs.Layout.{least_limit, greatest_limit, first_gate};
 ghost use Rattle.gate_journal.specs.Journal.{HoldsPayloads};
 ghost use Rattle.gate_journal.specs.Calls.{KeepsBytes, KeepsOthers, SettlesUnless, LeavesAsBefore, BurnsUnless, BurnsAtOk};
-ghost use Rattle.gate_journal.specs.Load.{IsUpOn, TellsNoJournal, TellsDamage, AnswersEach};
+ghost use Rattle.gate_journal.specs.Load.{IsUpOn, HasLength, TellsNoJournal, TellsDamage, AnswersEach};
 ghost use Rattle.gate_journal.specs.Creation.{IsFresh, LeavesNothingIfShort, LeavesAsBeforeIfLong, TellsNotEmpty, RefusesLong, StaysIfLong};
 ghost use Rattle.gate_journal.specs.Append.{after_append, StandsOn, HoldsAfter, LeavesOldOrNew, LeavesByAnswer, LeavesAsBeforeIfDown, BurnsByAppend, DownExactly, FullExactly};
 ghost use Rattle.salt_outside.specs.Causes.{CountsFailures};
@@ -48,6 +48,7 @@ impl Journal {
         ensures ok { D.is_told → IfOk result (λ r. HoldsPayloads r.0 r.1.items (D.state disk.new)) }
         ensures journal { IfOk result (λ r. IsUpOn part r.0) }
         ensures places { IfOk result (λ r. r.1.first ≡ first_gate) }
+        ensures size { IfOk result (λ r. HasLength r.0 r.1.items) }
 
         // The bytes stay. After every answer but `Disk` nothing is pending on the part.
         ensures bytes { D.is_told → KeepsBytes D.Disk disk.old disk.new part }

@@ -40,9 +40,9 @@ use Rattle.journalled_node.specs.declared.fault.LoadFault.TheVariants as n
 use Rattle.journalled_node.specs.State.{JournalledState, is_lost_or_down, records_content, StandsOnDisk, HasRecords, HasRecordsOrMore}
 use Rattle.journalled_node.specs.Calls.{CallEnd, KeepsByCall, HasRecordsByEnd, IsFullBy, HadRoom, append_end, changing_calls, length_with, node_over, record_by_stop}
 use Rattle.journalled_node.specs.Calls.CallEnd.{Answered, DiskFailed, WasFull}
-use Rattle.journalled_node.specs.Loading.{start_at, loaded_node, IsLoadedAt, HasRecordsAt, AreBytesOf, IsFirstWrong, HasWrongRecord, LacksRoomToStart, HasLoadFault, IsLoadFault, IsLoadedFrom, HasRoomToStart, IsTaken, IsDenied, AnswersEachNode, HasRecordsFrom, load_calls, start_by_stop, IsDamage, KeepsByLoad}
-use Rattle.journalled_node.specs.Starts.{unread, unstarted, IsStartFault, MayAddIfAny, placed_after_any, IsNodeOf, IsPayloadFault, IsWrongAt, LacksStartRoom, IsReadAt, IsReadFault, ReadsNode}
-use Rattle.journalled_node.proofs.Payloads.{one_list, none_wrong, one_wrong, is_wrong, start_room, loaded_more}
+use Rattle.journalled_node.specs.Loading.{start_at, loaded_node, IsLoadedAt, HasRecordsAt, AreBytesOf, IsFirstWrong, HasWrongRecord, LacksRoomToStart, HasLoadFault, IsLoadFault, IsLoadedFrom, HasRoomToStart, tells_of_bytes, IsTaken, IsDenied, AnswersEachNode, HasRecordsFrom, load_calls, start_by_stop, IsDamage, KeepsByLoad}
+use Rattle.journalled_node.specs.Starts.{unread, unstarted, IsStartFault, MayAddIfAny, placed_after_any, IsNodeOf, FitAJournal, IsPayloadFault, IsReadAt, ReadsNode}
+use Rattle.journalled_node.proofs.Payloads.{one_list, none_wrong, one_wrong, is_wrong, loaded_more}
 
 -- ---- the bytes have one meaning
 
@@ -127,11 +127,11 @@ module _ (law : HasOneRecord) (one_log : LogsAreOne) (f : FleetConfig) (me : ℕ
   accepts : (r : Result JournalledState LoadFault) → IfErr r (IsLoadFault f.tree me image)
       → (limit : ℕ) (records : List Deed) → HasRecordsAt f.tree me limit records image → HasRoomToStart f.tree me limit records → IsTaken r
   accepts (Ok x) told limit rs has room = tt
-  accepts (Err n.NoMemory) told limit rs has room = tt
-  accepts (Err n.Disk) told limit rs has room = tt
-  accepts (Err n.NotAJournal) told limit rs has room = no_load_fault law one_log f.tree me image limit rs has room n.NotAJournal told
-  accepts (Err (n.Damaged part at)) told limit rs has room = no_load_fault law one_log f.tree me image limit rs has room (n.Damaged part at) told
-  accepts (Err (n.Full length most)) told limit rs has room = no_load_fault law one_log f.tree me image limit rs has room (n.Full length most) told
+  accepts (Err fault) told limit rs has room = silent (tells_of_bytes fault) refl
+    where
+      silent : (tells : Bool) → tells_of_bytes fault ≡ tells → tells_of_bytes fault ≡ false
+      silent true e = absurd (no_load_fault law one_log f.tree me image limit rs has room fault (told e))
+      silent false e = e
 
   same : (r : Result JournalledState LoadFault) → IfOk r (IsLoadedFrom f me image) → (limit : ℕ) (records : List Deed) → HasRecordsAt f.tree me limit records image
       → IfOk r (λ x. (x.log.limit ≡ limit) × (x.node.state.records ≡ with_if_any (start_at f.tree me) records))
@@ -143,11 +143,7 @@ module _ (law : HasOneRecord) (one_log : LogsAreOne) (f : FleetConfig) (me : ℕ
   refuses : (r : Result JournalledState LoadFault) → IfOk r (IsLoadedFrom f me image) → IfErr r (IsLoadFault f.tree me image)
       → (fault : LoadFault) → HasLoadFault f.tree me fault image → IsDenied fault r
   refuses (Ok x) from told fault has = no_load_fault law one_log f.tree me image x.log.limit from.records from.log from.room fault has
-  refuses (Err n.NoMemory) from told fault has = tt
-  refuses (Err n.Disk) from told fault has = tt
-  refuses (Err n.NotAJournal) from told fault has = one_load_fault law one_log f.tree me image fault n.NotAJournal has told
-  refuses (Err (n.Damaged part at)) from told fault has = one_load_fault law one_log f.tree me image fault (n.Damaged part at) has told
-  refuses (Err (n.Full length most)) from told fault has = one_load_fault law one_log f.tree me image fault (n.Full length most) has told
+  refuses (Err other) from told fault has = λ tells. one_load_fault law one_log f.tree me image fault other has (told tells)
 
   -- what is loaded, and each fault that is told, answers each log of a node and each fault
   pub answers_each : (r : Result JournalledState LoadFault) → IfOk r (IsLoadedFrom f me image) → IfErr r (IsLoadFault f.tree me image) → AnswersEachNode f me image r
@@ -189,6 +185,21 @@ log_at_rest limit content disk image is rests may = record {
 }
 
 -- ---- a log that was loaded, and the records of its payloads
+
+-- the answer that a log was not loaded for this fault, as that of the node
+as_unread : {T U : Type 0} (fault other : LogFault.LoadFault) → ◌≡◌ {A = Result T LogFault.LoadFault} (Err fault) (Err other)
+    → ◌≡◌ {A = Result U LoadFault} (Err (unread fault)) (Err (unread other))
+as_unread fault other e = let same : fault ≡ other = cc in ap (λ (x : LogFault.LoadFault). Err (unread x)) same
+
+is_disk : (fault : LogFault.LoadFault) → unread fault ≡ n.Disk → fault ≡ log.Disk
+is_disk log.NoMemory e = absurd cc
+is_disk log.Disk e = refl
+is_disk log.NotAJournal e = absurd cc
+is_disk (log.Damaged part at) e = absurd cc
+
+failed_log : {T U : Type 0} (fault : LogFault.LoadFault) → ◌≡◌ {A = Result U LoadFault} (Err (unread fault)) (Err n.Disk)
+    → ◌≡◌ {A = Result T LogFault.LoadFault} (Err fault) (Err log.Disk)
+failed_log fault e = let same : unread fault ≡ n.Disk = cc in ap Err (is_disk fault same)
 
 module _ {D : Type 0} (disk : Ghosts D) (old new : D) where
   -- the log that stands on the disk is that of its bytes
@@ -234,22 +245,21 @@ module _ {D : Type 0} (disk : Ghosts D) (old new : D) where
       stands_read (Err fault) is = tt
 
       fault_read : (r : Result (PlacedNode × JournalState) LoadFault) → IfErr r (IsPayloadFault f me content.rest)
-          → IfErr r (IsReadFault f.tree me (bytes_in (disk.state old)))
+          → IfErr r (IsLoadFault f.tree me (bytes_in (disk.state old)))
       fault_read (Ok x) told = tt
-      fault_read (Err n.NoMemory) told = tt
+      fault_read (Err n.NoMemory) told = λ tells. absurd cc
       fault_read (Err n.NotAJournal) told = absurd told
       fault_read (Err (n.Full length limit)) told = absurd told
-      fault_read (Err n.Disk) told = tt
-      fault_read (Err (n.Damaged part at)) told =
-          let there = log_there j (content_of content) holds bytes in
+      fault_read (Err n.Disk) told = absurd told
+      fault_read (Err (n.Damaged part at)) told = λ tells.
           inr (
             told.0,
             record {
               limit = j.limit;
               content = content_of content;
-              log = there;
+              log = log_there j (content_of content) holds bytes;
               number = told.1.number;
-              first = is_wrong f me j.limit content.rest.items (bytes_in (disk.state old) Even) told.1.number there.rest told.1.stops;
+              first = is_wrong f me content.rest.items told.1.number told.1.stops;
               place = told.1.place ∙ ap (λ (first : ℕ). gate_place (record { first = first; items = content.rest.items }) told.1.number) begins;
             },
           )
@@ -269,60 +279,36 @@ module _ {D : Type 0} (disk : Ghosts D) (old new : D) where
         fault = fault_read r told;
       }
 
+    unread_fault : (fault : LogFault.LoadFault) → TellsLogFault {T = JournalState × LoadedContent} (bytes_in (disk.state old)) (Err fault)
+        → IsLoadFault f.tree me (bytes_in (disk.state old)) (unread fault)
+    unread_fault log.NoMemory told = λ tells. absurd cc
+    unread_fault log.Disk told = λ tells. absurd cc
+    unread_fault log.NotAJournal told = λ tells. told log.NotAJournal refl
+    unread_fault (log.Damaged part at) told = λ tells. inl (told (log.Damaged part at) refl)
+
     -- a log that was not loaded
     pub read_not : (fault : LogFault.LoadFault) → LeavesAsBefore disk old new → KeepsAllBytes disk old new → SettlesAll {T = JournalState × LoadedContent} (disk.state new) (Err fault)
         → BurnsByLoad {T = JournalState × LoadedContent} (disk.fuse old) (disk.fuse new) (Err fault) → TellsLogFault {T = JournalState × LoadedContent} (bytes_in (disk.state old)) (Err fault)
         → ReadsNode disk old new f me (Err (unread fault))
-    read_not log.NoMemory moment bytes rests burns told = record {
+    read_not fault moment bytes rests burns told = record {
       any_moment = moment;
       bytes = bytes;
-      settled = λ failed lacked. absurd (lacked refl);
-      passed = λ failed lacked. absurd (lacked refl);
-      not_passed = λ e. absurd cc;
+      settled = λ failed lacked. rests (λ e. failed (as_unread fault log.Disk e)) (λ e. lacked (as_unread fault log.NoMemory e));
+      passed = λ failed lacked. burns.passed (λ e. failed (as_unread fault log.Disk e)) (λ e. lacked (as_unread fault log.NoMemory e));
+      not_passed = λ e passes. burns.not_passed (failed_log fault e) passes;
       records = tt;
       stands = tt;
-      fault = tt;
+      fault = unread_fault fault told;
     }
-    read_not log.Disk moment bytes rests burns told = record {
-      any_moment = moment;
-      bytes = bytes;
-      settled = λ failed lacked. absurd (failed refl);
-      passed = λ failed lacked. absurd (failed refl);
-      not_passed = λ e passes. burns.not_passed refl passes;
-      records = tt;
-      stands = tt;
-      fault = tt;
-    }
-    read_not log.NotAJournal moment bytes rests burns told = record {
-      any_moment = moment;
-      bytes = bytes;
-      settled = λ failed lacked. rests (λ e. absurd cc) (λ e. absurd cc);
-      passed = λ failed lacked. burns.passed (λ e. absurd cc) (λ e. absurd cc);
-      not_passed = λ e. absurd cc;
-      records = tt;
-      stands = tt;
-      fault = told log.NotAJournal refl;
-    }
-    read_not (log.Damaged part at) moment bytes rests burns told = record {
-      any_moment = moment;
-      bytes = bytes;
-      settled = λ failed lacked. rests (λ e. absurd cc) (λ e. absurd cc);
-      passed = λ failed lacked. burns.passed (λ e. absurd cc) (λ e. absurd cc);
-      not_passed = λ e. absurd cc;
-      records = tt;
-      stands = tt;
-      fault = inl (told (log.Damaged part at) refl);
-    }
+
+-- the node of a log that was loaded, with its log
+pub read_at : (f : FleetConfig) (me : ℕ) (j : JournalState) (payloads : List (List ℕ)) → FitAJournal payloads → j.is_down ≡ false
+    → (r : Result (PlacedNode × JournalState) LoadFault) → IfOk r (λ x. IsNodeOf f me payloads x.0 × (x.1 ≡ j)) → IfOk r (IsReadAt f me)
+read_at f me j payloads small up (Ok x) (is, same) =
+    record { node = is.is; small = subst FitAJournal is.bytes.spelled small; up = ap (λ (k : JournalState). k.is_down) same ∙ up }
+read_at f me j payloads small up (Err fault) is = tt
 
 -- ---- a load that did not come to its start
-
--- why no node was read, as a fault of the load
-pub read_fault : (t : Tree) (me : ℕ) (image : Image) (fault : LoadFault) → IsReadFault t me image fault → IsLoadFault t me image fault
-read_fault t me image n.NoMemory told = tt
-read_fault t me image n.NotAJournal told = told
-read_fault t me image (n.Damaged part at) told = told
-read_fault t me image (n.Full length limit) told = absurd told
-read_fault t me image n.Disk told = tt
 
 fewer : (calls : ℕ) (b : Bool) → nat_le 3 calls ≡ b → (3 ≤ calls → ⊥) → b ≡ false
 fewer calls true e never = absurd (never (leb-true 3 calls e))
@@ -339,10 +325,25 @@ module _ {D : Type 0} (disk : Ghosts D) (old new : D) (f : FleetConfig) (me : �
   disk_fault : (fault : LoadFault) → ◌≡◌ {A = Result JournalledState LoadFault} (Err fault) (Err n.Disk) → ◌≡◌ {A = Result (PlacedNode × JournalState) LoadFault} (Err fault) (Err n.Disk)
   disk_fault fault e = let same : fault ≡ n.Disk = cc in cc
 
-  not_full : (fault : LoadFault) → ReadsNode disk old new f me (Err fault) → (length limit : ℕ) → ◌≡◌ {A = Result JournalledState LoadFault} (Err fault) (Err (n.Full length limit)) → ⊥
-  not_full fault read length limit e =
+  -- the log of these bytes is that of those from before
+  log_kept : (limit : ℕ) (content : LogContent) → KeepsAllBytes disk old new → IsLog limit content (bytes_in (disk.state old)) → IsLog limit content (bytes_in (disk.state new))
+  log_kept limit content bytes is = record {
+    root_limit = is.root_limit;
+    root = subst (IsJournal is.root_limit []) (sym (bytes Root)) is.root;
+    first = is.first;
+    rest = subst (IsJournal limit content.rest) (sym (bytes Even)) is.rest;
+  }
+
+  full_there : (fault : LoadFault) → ReadsNode disk old new f me (Err fault) → (length limit : ℕ) → ◌≡◌ {A = Result JournalledState LoadFault} (Err fault) (Err (n.Full length limit))
+      → (image : Image) → MayLeave (disk.state new) image → (records : List Deed) × HasRecordsAt f.tree me limit records (bytes_in (disk.state old)) × HasRecords limit records image
+  full_there fault read length limit e image may =
       let same : fault ≡ n.Full length limit = cc in
-      subst (IsReadFault f.tree me (bytes_in (disk.state old))) same read.fault
+      let lacks : LacksRoomToStart f.tree me (bytes_in (disk.state old)) length limit = subst (IsLoadFault f.tree me (bytes_in (disk.state old))) same read.fault refl in
+      let content : LogContent = records_content lacks.records in (
+        lacks.records,
+        lacks.log,
+        log_at_rest limit content (disk.state new) image (log_kept limit content read.bytes lacks.log.log) (read.settled (λ failed. absurd cc) (λ lacked. absurd cc)) may,
+      )
 
   early_stop : (fault : LoadFault) → ReadsNode disk old new f me (Err fault) → ◌≡◌ {A = Result JournalledState LoadFault} (Err fault) (Err n.Disk) → AreSettled (disk.state old)
       → (limit : ℕ) (records : List Deed) → HasRecordsAt f.tree me limit records (bytes_in (disk.state old)) → (calls pick : ℕ) (image : Image) → disk.fuse old ≡ Armed calls
@@ -360,7 +361,7 @@ module _ {D : Type 0} (disk : Ghosts D) (old new : D) (f : FleetConfig) (me : �
     stands = tt;
     left = tt;
     kept = λ damage. (read.bytes, settled_damage fault read damage);
-    full = λ length limit e image may. absurd (not_full fault read length limit e);
+    full = full_there fault read;
     passed = tt;
     not_passed = λ e passes. read.not_passed (disk_fault fault e) (passes_split 3 (changing_calls (start_at f.tree me)) (disk.fuse old) passes).0;
     stopped = λ e rests limit records has calls pick cut image armed may picked. early_stop fault read e rests limit records has calls pick image armed may;
@@ -413,14 +414,24 @@ late_stop : (calls : ℕ) → 3 ≤ calls → (b : Bool) → nat_le 3 calls ≡ 
 late_stop calls more true e = refl
 late_stop calls more false e = let wrong : true ≡ false = sym (le-leb 3 calls more) ∙ e in absurd cc
 
-module _ {D : Type 0} (disk : Ghosts D) (old mid new : D) (f : FleetConfig) (me : ℕ) (p : PlacedNode) (j : JournalState) (is : p ≡ loaded_node f me p.state.records)
-    (read : ReadsNode disk old mid f me (Ok (p, j))) where
-  abbrev pub loaded : JournalledState
+module _ {D : Type 0} (disk : Ghosts D) (old mid new : D) (f : FleetConfig) (me : ℕ) (x : PlacedNode × JournalState) (at : IsReadAt f me x)
+    (read : ReadsNode disk old mid f me (Ok x)) where
+  abbrev p : PlacedNode
+  p = x.0
+
+  abbrev j : JournalState
+  j = x.1
+
+  abbrev loaded : JournalledState
   loaded = node_over p j false
 
-  -- the start of the node that was read, as that at its place of the fleet
-  pub start_is : start_at p.fleet.tree p.me ≡ start_at f.tree me
-  start_is = ap (λ (n : PlacedNode). start_at n.fleet.tree n.me) is
+  -- the start of the node that was read
+  abbrev own : Option Deed
+  own = start_at p.fleet.tree p.me
+
+  -- it is that at its place of the fleet
+  at_place : (P : Option Deed → Type 0) → P own → P (start_at f.tree me)
+  at_place P here = subst P (ap (λ (n : PlacedNode). start_at n.fleet.tree n.me) at.node) here
 
   three : Passes 3 (disk.fuse old) × (disk.fuse mid ≡ fuse_after 3 (disk.fuse old))
   three = read.passed (λ e. absurd cc) (λ e. absurd cc)
@@ -435,12 +446,14 @@ module _ {D : Type 0} (disk : Ghosts D) (old mid new : D) (f : FleetConfig) (me 
       (λ image may. inl may) (λ image here. inr (record { limit = j.limit; records = p.state.records; log = read.records; here = here }))
 
   -- what is left where the node is up
-  pub kept_started : (q : PlacedNode) (after : JournalState) → disk.is_told → after.is_down ≡ false → q ≡ placed_after_any (start_at p.fleet.tree p.me) p
-      → KeepsByCall disk mid new loaded (node_over q after false) (start_at f.tree me) Answered
-      → KeepsByLoad disk old new f.tree me (Ok (node_over q after false))
-  kept_started q after told up grown call =
+  pub kept_started : (q : PlacedNode) (after : JournalState) (lost : Bool) → disk.is_told → after.is_down ≡ false → lost ≡ false → q ≡ placed_after_any own p
+      → KeepsByCall disk mid new loaded (node_over q after lost) own Answered → KeepsByLoad disk old new f.tree me (Ok (node_over q after false))
+  kept_started q after lost told up found grown kept =
+      let call : KeepsByCall disk mid new loaded (node_over q after false) (start_at f.tree me) Answered =
+      subst (λ (b : Bool). KeepsByCall disk mid new loaded (node_over q after b) (start_at f.tree me) Answered) found
+      (at_place (λ o. KeepsByCall disk mid new loaded (node_over q after lost) o Answered) kept) in
       let whole : q.state.records ≡ with_if_any (start_at f.tree me) p.state.records =
-      ap (λ (n : PlacedNode). n.state.records) (started_from f me p q is grown) in
+      ap (λ (n : PlacedNode). n.state.records) (started_from f me p q at.node grown) in
       record {
         any_moment = moment (node_over q after false) Answered told call;
         stands = call.stands told (ap (λ (b : Bool). b || false) up);
@@ -454,23 +467,23 @@ module _ {D : Type 0} (disk : Ghosts D) (old mid new : D) (f : FleetConfig) (me 
       }
 
   -- which node is loaded
-  pub loaded_from : (q : PlacedNode) (after : JournalState) → after.limit ≡ j.limit → q ≡ placed_after_any (start_at p.fleet.tree p.me) p → HadRoom loaded (start_at f.tree me)
+  pub loaded_from : (q : PlacedNode) (after : JournalState) → after.limit ≡ j.limit → q ≡ placed_after_any own p → HadRoom loaded own
       → IsLoadedFrom f me (bytes_in (disk.state old)) (node_over q after false)
   loaded_from q after limits grown room = record {
     records = p.state.records;
     log = subst (λ (k : ℕ). HasRecordsAt f.tree me k p.state.records (bytes_in (disk.state old))) (sym limits) read.records;
     room = λ minion. subst (λ (k : ℕ). content_length (records_content p.state.records) + record_overhead + 1 ≤ k) (sym limits)
-        (subst (λ (k : ℕ). k + record_overhead + 1 ≤ j.limit) length_is (room_told loaded (is_minion f.tree me) room minion));
-    node = started_from f me p q is grown;
+        (subst (λ (k : ℕ). k + record_overhead + 1 ≤ j.limit) length_is (room_told loaded (is_minion f.tree me) (at_place (HadRoom loaded) room) minion));
+    node = started_from f me p q at.node grown;
   }
 
   -- why a start was not kept, as a fault of the load
-  pub start_fault : (fault : AppendFault) → IsStartFault loaded (start_at f.tree me) fault → IsLoadFault f.tree me (bytes_in (disk.state old)) (unstarted fault)
-  start_fault a.NoMemory told = tt
+  pub start_fault : (fault : AppendFault) → IsStartFault loaded own fault → IsLoadFault f.tree me (bytes_in (disk.state old)) (unstarted fault)
+  start_fault a.NoMemory told = λ tells. absurd cc
   start_fault a.Down told = absurd told
-  start_fault a.Disk told = tt
-  start_fault (a.Full long limit) told =
-      let full = answers_full f.tree me loaded (is_minion f.tree me) long limit told in
+  start_fault a.Disk told = λ tells. absurd cc
+  start_fault (a.Full long limit) told = λ tells.
+      let full = answers_full f.tree me loaded (is_minion f.tree me) long limit (at_place (λ o. IsFullBy loaded o long limit) told) in
       record {
         records = p.state.records;
         minion = full.0;
@@ -494,11 +507,10 @@ module _ {D : Type 0} (disk : Ghosts D) (old mid new : D) (f : FleetConfig) (me 
         (subst (λ (k : ℕ). HasRecords k (with_if_any (record_by_stop (calls - 3) pick (start_at f.tree me)) records) image) one.0
         (subst (λ (rs : List Deed). HasRecords j.limit (with_if_any (record_by_stop (calls - 3) pick (start_at f.tree me)) rs) image) one.1 here))
 
-    -- what is left where the start was not kept
-    pub kept_unstarted : (fault : AppendFault) → IsStartFault loaded (start_at f.tree me) fault
+    kept_so : (fault : AppendFault) → IsStartFault loaded (start_at f.tree me) fault
         → KeepsByCall disk mid new loaded after (start_at f.tree me) (append_end {T = Unit {0}} (Err fault)) → KeepsByLoad disk old new f.tree me (Err (unstarted fault))
-    kept_unstarted a.Down why call = absurd why
-    kept_unstarted a.NoMemory why call = record {
+    kept_so a.Down why call = absurd why
+    kept_so a.NoMemory why call = record {
       any_moment = moment after _ told call;
       stands = tt;
       left = tt;
@@ -508,7 +520,7 @@ module _ {D : Type 0} (disk : Ghosts D) (old mid new : D) (f : FleetConfig) (me 
       not_passed = λ e. absurd cc;
       stopped = λ e. absurd cc;
     }
-    kept_unstarted (a.Full long most) why call = record {
+    kept_so (a.Full long most) why call = record {
       any_moment = moment after _ told call;
       stands = tt;
       left = tt;
@@ -525,7 +537,7 @@ module _ {D : Type 0} (disk : Ghosts D) (old mid new : D) (f : FleetConfig) (me 
       not_passed = λ e. absurd cc;
       stopped = λ e. absurd cc;
     }
-    kept_unstarted a.Disk why call = record {
+    kept_so a.Disk why call = record {
       any_moment = moment after _ told call;
       stands = tt;
       left = tt;
@@ -537,9 +549,8 @@ module _ {D : Type 0} (disk : Ghosts D) (old mid new : D) (f : FleetConfig) (me 
       stopped = λ e rests limit records has calls pick cut image armed may picked. start_stop call limit records has calls pick cut image armed may picked;
     }
 
-  -- there is room for the start of a node that was read
-  pub room_there : LacksStartRoom p → ⊥
-  room_there lacks =
-      let room : has_log_room_at p Boot ≡ true = start_room (id_of p.fleet.tree p.me) j.limit p.state.records (bytes_in (disk.state old) Even) read.records.log.rest in
-      let wrong : true ≡ false = sym room ∙ lacks.1 in
-      absurd cc
+    -- what is left where the start was not kept
+    pub kept_unstarted : (fault : AppendFault) → IsStartFault loaded own fault
+        → KeepsByCall disk mid new loaded after own (append_end {T = Unit {0}} (Err fault)) → KeepsByLoad disk old new f.tree me (Err (unstarted fault))
+    kept_unstarted fault why call =
+        kept_so fault (at_place (λ o. IsStartFault loaded o fault) why) (at_place (λ o. KeepsByCall disk mid new loaded after o (append_end {T = Unit {0}} (Err fault))) call)

@@ -5,7 +5,7 @@ use Rattle.std.specs.List.{list_all}
 use Rattle.std.proofs.lemmas.Bool.{lt-ltb, le-leb, cases_lt}
 use Rattle.std.proofs.lemmas.List.{length_push, length-append, length-map, length-take-le, take-take, take_all, get_or-take, get_or-map, map-append}
 use Rattle.std.proofs.lemmas.List.Elements.{All-nil, All-head, All-tail, All-take, All-get_or}
-use Rattle.gate_journal.specs.Journal.{IsJournal, records, record_of, journal_length}
+use Rattle.gate_journal.specs.Journal.{JournalState, records, record_of, journal_length}
 use Rattle.gate_journal.specs.Layout.{greatest_limit}
 use Rattle.gate_journal.proofs.Store.{journal_length-push}
 use Rattle.fleet_config.specs.Fleet.{FleetConfig}
@@ -26,8 +26,8 @@ use Rattle.node_core.specs.Records.{log, log_after}
 use Rattle.node_core.specs.NextRecords.{AreRecordsAt, MayAdd, is_next_record, are_next, has_log_room, most_own_entries, placed_after}
 use Rattle.node_core.specs.Node.{PlacedNode, first_held}
 use Rattle.node_core.proofs.Nexts.{both_true, no_records, records_more}
-use Rattle.journalled_node.specs.Loading.{AreBytesOf, IsFirstWrong, loaded_node}
-use Rattle.journalled_node.specs.Starts.{AddsPayload, IsNodeOf, StopsAt, LacksNext}
+use Rattle.journalled_node.specs.Loading.{AreBytesOf, IsFirstWrong, loaded_node, start_at}
+use Rattle.journalled_node.specs.Starts.{AddsPayload, FitAJournal, FindsRoom, IsNodeOf, IsReadAt, MayAddIfAny, StopsAt}
 
 -- ---- lists
 
@@ -221,34 +221,33 @@ front_short (payload ∷ payloads) (suc n) within =
     let front = length-append (record_of payload) (records (take n payloads)) in
     omega (arith, rest, all, front)
 
--- the first wrong payload of a journal is no record that the node may add: it would find room
-pub is_wrong : (f : FleetConfig) (me limit : ℕ) (payloads : List (List ℕ)) (bytes : List ℕ) (n : ℕ) → IsJournal limit payloads bytes → StopsAt f me payloads n
-    → IsFirstWrong f.tree me payloads n
-is_wrong f me limit payloads bytes n journal stops = record {
-  records = rs;
+-- the first payload that a node did not add is the first wrong one
+pub is_wrong : (f : FleetConfig) (me : ℕ) (payloads : List (List ℕ)) (n : ℕ) → StopsAt f me payloads n → IsFirstWrong f.tree me payloads n
+is_wrong f me payloads n stops = record {
+  records = stops.node.state.records;
   before = stops.before.bytes;
   inside = stops.inside;
   wrong = λ deed fits is.
-      let spelled : take n payloads ≡ map record_bytes rs = stops.before.bytes.spelled in
-      let fronts = front_short payloads n stops.inside in
-      let front : length (records (map record_bytes rs)) ≡ length (records (take n payloads)) = ap (λ (l : List (List ℕ)). length (records l)) (sym spelled) in
-      let own : length (slice_index_or payloads n []) ≡ length (record_bytes deed) = ap (λ (l : List ℕ). length l) is in
-      let whole = journal.within in
-      let most = journal.greatest in
-      let small : length (records (map record_bytes rs)) + length (record_bytes deed) ≤ greatest_limit = omega (arith, fronts, front, own, whole, most) in
-      let room : has_log_room (id_of stops.node.fleet.tree stops.node.me) rs deed ≡ true = room_for (id_of stops.node.fleet.tree stops.node.me) rs deed small in
-      sym (ap (λ (n : PlacedNode). is_next_record n.fleet.tree n.me rs deed) stops.before.is) ∙ stops.wrong deed fits is room;
+      sym (ap (λ (n : PlacedNode). is_next_record n.fleet.tree n.me stops.node.state.records deed) stops.before.is) ∙ stops.wrong deed fits is;
 }
-  where
-    rs : List Deed
-    rs = stops.node.state.records
 
--- a node whose records a journal has has room for one start more
-pub start_room : (own : List ℕ) (limit : ℕ) (rs : List Deed) (bytes : List ℕ) → IsJournal limit (map record_bytes rs) bytes → has_log_room own rs Boot ≡ true
-start_room own limit rs bytes journal =
-    let whole = journal.within in
-    let most = journal.greatest in
-    room_for own rs Boot (omega (arith, whole, most))
+-- the next payload of a journal finds room at the node of those before it
+pub finds_room : (f : FleetConfig) (me : ℕ) (payloads : List (List ℕ)) (n : ℕ) (node : PlacedNode) → FitAJournal payloads → n < length payloads
+    → IsNodeOf f me (take n payloads) node → FindsRoom (slice_index_or payloads n []) node
+finds_room f me payloads n node small inside before deed fits is =
+    let rs : List Deed = node.state.records in
+    let fronts = front_short payloads n inside in
+    let front : length (records (map record_bytes rs)) ≡ length (records (take n payloads)) = ap (λ (l : List (List ℕ)). length (records l)) (sym before.bytes.spelled) in
+    let own : length (slice_index_or payloads n []) ≡ length (record_bytes deed) = ap (λ (l : List ℕ). length l) is in
+    room_for (id_of node.fleet.tree node.me) rs deed (omega (arith, fronts, front, own, small))
+
+-- a minion whose records a journal may have has room for one start more, and a master adds nothing
+pub may_start : (f : FleetConfig) (me : ℕ) (x : PlacedNode × JournalState) → IsReadAt f me x → MayAddIfAny (start_at x.0.fleet.tree x.0.me) x.0
+may_start f me x read = by_role (is_minion x.0.fleet.tree x.0.me) refl
+  where
+    by_role : (minion : Bool) → is_minion x.0.fleet.tree x.0.me ≡ minion → MayAddIfAny (if minion then Some Boot else None) x.0
+    by_role true is = record { next = is; room = room_for (id_of x.0.fleet.tree x.0.me) x.0.state.records Boot (let small = read.small in omega (arith, small)); fits = tt }
+    by_role false is = tt
 
 -- ---- one payload more
 

@@ -94,13 +94,17 @@ HasLoadFault t me (n.Full length limit) image = LacksRoomToStart t me image leng
 
 -- ---- what is answered
 
--- A fault that was told is one of the bytes. Want of memory and a disk that fails tell nothing of them.
+-- whether a fault tells of the bytes: want of memory and a disk that fails don't
+abbrev pub tells_of_bytes : LoadFault → Bool
+tells_of_bytes n.NoMemory = false
+tells_of_bytes n.Disk = false
+tells_of_bytes n.NotAJournal = true
+tells_of_bytes (n.Damaged part at) = true
+tells_of_bytes (n.Full length limit) = true
+
+-- A fault that tells of the bytes is one that they have.
 abbrev pub IsLoadFault : Tree → ℕ → Image → LoadFault → Type 0
-IsLoadFault t me image n.NoMemory = ⊤
-IsLoadFault t me image n.Disk = ⊤
-IsLoadFault t me image n.NotAJournal = HasLoadFault t me n.NotAJournal image
-IsLoadFault t me image (n.Damaged part at) = HasLoadFault t me (n.Damaged part at) image
-IsLoadFault t me image (n.Full length limit) = HasLoadFault t me (n.Full length limit) image
+IsLoadFault t me image fault = tells_of_bytes fault ≡ true → HasLoadFault t me fault image
 
 -- there is room for the start that a load adds, if any, in a log of this limit behind these records
 abbrev pub HasRoomToStart : Tree → ℕ → ℕ → List Deed → Type 0
@@ -116,20 +120,12 @@ pub record IsLoadedFrom (f : FleetConfig) (me : ℕ) (image : Image) (n : Journa
 -- the answer is no fault of the bytes
 abbrev pub IsTaken : {T : Type 0} → Result T LoadFault → Type 0
 IsTaken (Ok node) = ⊤
-IsTaken (Err n.NoMemory) = ⊤
-IsTaken (Err n.Disk) = ⊤
-IsTaken (Err n.NotAJournal) = ⊥
-IsTaken (Err (n.Damaged part at)) = ⊥
-IsTaken (Err (n.Full length limit)) = ⊥
+IsTaken (Err fault) = tells_of_bytes fault ≡ false
 
 -- the answer is this fault, or tells nothing of the bytes
 abbrev pub IsDenied : {T : Type 0} → LoadFault → Result T LoadFault → Type 0
 IsDenied fault (Ok node) = ⊥
-IsDenied fault (Err n.NoMemory) = ⊤
-IsDenied fault (Err n.Disk) = ⊤
-IsDenied fault (Err n.NotAJournal) = fault ≡ n.NotAJournal
-IsDenied fault (Err (n.Damaged part at)) = fault ≡ n.Damaged part at
-IsDenied fault (Err (n.Full length limit)) = fault ≡ n.Full length limit
+IsDenied fault (Err told) = tells_of_bytes told ≡ true → fault ≡ told
 
 -- What the bytes are is answered so, but for want of memory and a disk that fails: a node is loaded where they have its records and room
 -- for its start, and each fault is told.

@@ -1,22 +1,20 @@
 -- The steps of a load. No public contract cites these.
-use Rattle.std.specs.Prelude.{◌≡◌, ◌<◌, ℕ, ⊤, Bool, true, false, List, [], length, take, Option, None, Some, Result, Ok, Err, IfOk, IfErr, IsErrOf, slice_index_or}
+use Rattle.std.specs.Prelude.{◌≡◌, ◌<◌, ◌≤◌, ℕ, ⊤, Bool, true, false, List, [], map, length, take, Option, None, Some, Result, Ok, Err, IfOk, IfErr, IsErrOf, slice_index_or}
 use Rattle.salt_disk.specs.declared.disk.Disk.{Ghosts}
-use Rattle.salt_disk.specs.Crash.{Image}
 use Rattle.salt_disk.specs.Fuse.{Passes, fuse_after}
 use Rattle.gate_journal.specs.Calls.{LeavesAsBefore}
-use Rattle.gate_journal.specs.Journal.{JournalState}
+use Rattle.gate_journal.specs.Layout.{greatest_limit}
+use Rattle.gate_journal.specs.Journal.{JournalState, journal_length}
 use Rattle.gate_journal.specs.declared.fault.LoadFault as LogFault
 use Rattle.gate_journal.specs.declared.fault.LoadFault.TheVariants as log
 use Rattle.gate_journal.specs.declared.fault.AppendFault.{AppendFault}
 use Rattle.gate_journal.specs.declared.fault.AppendFault.TheVariants as a
 use Rattle.gate_journal.specs.Payloads.{PlacedPayloads, gate_place}
 use Rattle.fleet_config.specs.Fleet.{FleetConfig}
-use Rattle.fleet_config.specs.Tree.{Tree, is_minion}
 use Rattle.checkpoint_log.specs.Content.{HoldsContent, bytes_in}
 use Rattle.checkpoint_log.specs.Loading.{KeepsAllBytes, AreSettled}
 use Rattle.salt_disk.specs.declared.disk.Part.TheVariants.{Even}
 use Rattle.salt_wire.specs.declared.deed.Deed.{Deed}
-use Rattle.salt_wire.specs.declared.deed.Deed.TheVariants.{Boot}
 use Rattle.journal_records.specs.Limits.{RecordFits}
 use Rattle.journal_records.specs.Spelling.{record_bytes}
 use Rattle.node_core.specs.Node.{PlacedNode}
@@ -25,7 +23,7 @@ use Rattle.journalled_node.specs.declared.fault.LoadFault.{LoadFault}
 use Rattle.journalled_node.specs.declared.fault.LoadFault.TheVariants as n
 use Rattle.journalled_node.specs.State.{JournalledState, records_content}
 use Rattle.journalled_node.specs.Calls.{IsFullBy}
-use Rattle.journalled_node.specs.Loading.{AreBytesOf, HasRecordsAt, HasLoadFault, loaded_node}
+use Rattle.journalled_node.specs.Loading.{AreBytesOf, HasRecordsAt, IsLoadFault, loaded_node}
 
 -- the fault of a load whose log was not loaded
 abbrev pub unread : LogFault.LoadFault → LoadFault
@@ -58,14 +56,22 @@ abbrev pub placed_after_any : Option Deed → PlacedNode → PlacedNode
 placed_after_any None n = n
 placed_after_any (Some deed) n = placed_after deed n
 
--- a record was added to a node, or it is none that the node may add, if there is room for it
+-- a journal may have payloads of this length
+abbrev pub FitAJournal : List (List ℕ) → Type 0
+FitAJournal payloads = journal_length payloads ≤ greatest_limit
+
+-- the record that a payload is, if any, finds room in the logs of a node
+abbrev pub FindsRoom : List ℕ → PlacedNode → Type 0
+FindsRoom payload n = (deed : Deed) → RecordFits deed → payload ≡ record_bytes deed → has_log_room_at n deed ≡ true
+
+-- a record was added to a node, or it is none that the node may add next
 abbrev pub AddsIfNext : Deed → PlacedNode → PlacedNode → Bool → Type 0
 AddsIfNext deed old new true = MayAdd deed old × (new ≡ placed_after deed old)
-AddsIfNext deed old new false = (has_log_room_at old deed ≡ true → is_next_at old deed ≡ false) × (new ≡ old)
+AddsIfNext deed old new false = (is_next_at old deed ≡ false) × (new ≡ old)
 
--- a payload is not the bytes of a record that a node may add next, if there is room for it
+-- a payload is not the bytes of a record that a node may add next
 abbrev pub LacksNext : List ℕ → PlacedNode → Type 0
-LacksNext payload n = (deed : Deed) → RecordFits deed → payload ≡ record_bytes deed → has_log_room_at n deed ≡ true → is_next_at n deed ≡ false
+LacksNext payload n = (deed : Deed) → RecordFits deed → payload ≡ record_bytes deed → is_next_at n deed ≡ false
 
 -- the record that a payload is was added to a node, or it is none that the node may add
 abbrev pub AddsPayload : List ℕ → PlacedNode → PlacedNode → Bool → Type 0
@@ -77,7 +83,7 @@ pub record IsNodeOf (f : FleetConfig) (me : ℕ) (payloads : List (List ℕ)) (n
   pub is : node ≡ loaded_node f me node.state.records
   pub bytes : AreBytesOf f.tree me payloads node.state.records
 
--- the payload with this number is the first that is wrong at a node, where each record finds room in its log
+-- the payload with this number is the first that is wrong at a node
 pub record StopsAt (f : FleetConfig) (me : ℕ) (payloads : List (List ℕ)) (number : ℕ) : Type 0 where
   pub node : PlacedNode
   pub before : IsNodeOf f me (take number payloads) node
@@ -89,7 +95,7 @@ abbrev pub ReadsPayloads : FleetConfig → ℕ → List (List ℕ) → PlacedNod
 ReadsPayloads f me payloads new None = IsNodeOf f me payloads new
 ReadsPayloads f me payloads new (Some number) = StopsAt f me payloads number
 
--- the first payload that is wrong at a node has its gate at this place, where each record finds room in its log
+-- the first payload that is wrong at a node has its gate at this place
 pub record IsWrongAt (f : FleetConfig) (me : ℕ) (payloads : PlacedPayloads) (at : ℕ) : Type 0 where
   pub number : ℕ
   pub stops : StopsAt f me payloads.items number
@@ -103,21 +109,11 @@ IsPayloadFault f me payloads (n.Damaged part at) = (part ≡ Even) × IsWrongAt 
 IsPayloadFault f me payloads (n.Full length limit) = ⊥
 IsPayloadFault f me payloads n.Disk = ⊥
 
--- a minion's own log has no room for a start
-abbrev pub LacksStartRoom : PlacedNode → Type 0
-LacksStartRoom n = (is_minion n.fleet.tree n.me ≡ true) × (has_log_room_at n Boot ≡ false)
-
--- the node at a place of a fleet was read, and its log is up
-abbrev pub IsReadAt : FleetConfig → ℕ → PlacedNode × JournalState → Type 0
-IsReadAt f me x = (x.0 ≡ loaded_node f me x.0.state.records) × (x.1.is_down ≡ false)
-
--- why no node was read: a fault of the bytes, and never want of room for a start
-abbrev pub IsReadFault : Tree → ℕ → Image → LoadFault → Type 0
-IsReadFault t me image n.NoMemory = ⊤
-IsReadFault t me image n.NotAJournal = HasLoadFault t me n.NotAJournal image
-IsReadFault t me image (n.Damaged part at) = HasLoadFault t me (n.Damaged part at) image
-IsReadFault t me image (n.Full length limit) = ⊥
-IsReadFault t me image n.Disk = ⊤
+-- the node at a place of a fleet was read, with records that a journal may have, and its log is up
+pub record IsReadAt (f : FleetConfig) (me : ℕ) (x : PlacedNode × JournalState) : Type 0 where
+  pub node : x.0 ≡ loaded_node f me x.0.state.records
+  pub small : FitAJournal (map record_bytes x.0.state.records)
+  pub up : x.1.is_down ≡ false
 
 -- What a read of a node leaves of a disk that tells what it holds.
 pub record ReadsNode {D : Type 0} (disk : Ghosts D) (old new : D) (f : FleetConfig) (me : ℕ) (result : Result (PlacedNode × JournalState) LoadFault) : Type 0 where
@@ -133,4 +129,4 @@ pub record ReadsNode {D : Type 0} (disk : Ghosts D) (old new : D) (f : FleetConf
   pub records : IfOk result (λ x. HasRecordsAt f.tree me x.1.limit x.0.state.records (bytes_in (disk.state old)))
   pub stands : IfOk result (λ x. HoldsContent x.1 (records_content x.0.state.records) (disk.state new))
   -- each fault is one of the bytes
-  pub fault : IfErr result (IsReadFault f.tree me (bytes_in (disk.state old)))
+  pub fault : IfErr result (IsLoadFault f.tree me (bytes_in (disk.state old)))

@@ -7,12 +7,12 @@ ghost use Rattle.checkpoint_log.specs.Content.{bytes_in};
 ghost use Rattle.salt_wire.specs.declared.deed.Deed.TheVariants.{Boot};
 ghost use Rattle.journal_records.specs.Limits.{RecordFits};
 ghost use Rattle.node_core.specs.Node.{empty_node};
-ghost use Rattle.node_core.specs.NextRecords.{MayAdd, placed_after};
+ghost use Rattle.node_core.specs.NextRecords.{MayAdd, has_log_room_at, placed_after};
 ghost use Rattle.journalled_node.specs.declared.fault.LoadFault.TheVariants.{Damaged};
 ghost use Rattle.journalled_node.specs.State.{HasRecordsOf, StandsIfUp};
 ghost use Rattle.journalled_node.specs.Calls.{KeepsByCall, HadRoom, append_end, node_over};
 ghost use Rattle.journalled_node.specs.Loading.{start_at, IsLoadedAt, IsLoadedFrom, IsLoadFault, KeepsByLoad};
-ghost use Rattle.journalled_node.specs.Starts.{AddsIfNext, AddsPayload, IsNodeOf, ReadsPayloads, IsPayloadFault, IsStartFault, MayAddIfAny, LacksStartRoom, placed_after_any, IsReadAt, ReadsNode};
+ghost use Rattle.journalled_node.specs.Starts.{FitAJournal, FindsRoom, AddsIfNext, AddsPayload, IsNodeOf, ReadsPayloads, IsPayloadFault, IsStartFault, MayAddIfAny, placed_after_any, IsReadAt, ReadsNode};
 
 use crate::fault::{unread, unstarted};
 use crate::keeping::keep;
@@ -32,12 +32,10 @@ use std::alloc::{AllocError, Global};
 // Adds a record, where it is one that the node may add.
 fn add_if_next(node: &mut Node, deed: Deed) -> Result<bool, AllocError>
     requires fits { RecordFits deed }
+    requires room { has_log_room_at node.old deed ≡ true }
     ensures ok { IfOk result (AddsIfNext deed node.old node.new) }
 {
     if !node.is_next(&deed) {
-        return Ok(false);
-    }
-    if !node.has_room(&deed) {
         return Ok(false);
     }
     node.add_record(deed)?;
@@ -46,6 +44,7 @@ fn add_if_next(node: &mut Node, deed: Deed) -> Result<bool, AllocError>
 
 // Adds the record that these bytes are, where it is one that the node may add.
 fn add_payload(alloc: Global, node: &mut Node, payload: &[u8]) -> Result<bool, AllocError>
+    requires room { FindsRoom payload.now node.old }
     ensures ok { IfOk result (AddsPayload payload.now node.old node.new) }
 {
     match read_record(alloc, payload)? {
@@ -61,6 +60,7 @@ fn add_payloads(
     payloads: &[Payload],
 ) -> Result<Option<usize>, AllocError>
     requires empty { node.old ≡ empty_node node.old.fleet node.old.me }
+    requires small { FitAJournal payloads.now }
     ensures ok { IfOk result (ReadsPayloads node.old.fleet node.old.me payloads.now node.new) }
 {
     for (i, payload) in payloads.iter().enumerate() {
@@ -93,6 +93,7 @@ fn node_of<'f>(
     payloads: &Payloads,
 ) -> Result<Node<'f>, LoadFault>
     requires within { me < length fleet.now.tree }
+    requires small { FitAJournal payloads.now.items }
     ensures ok { IfOk result (IsNodeOf fleet.now me payloads.now.items) }
     ensures fault { IfErr result (IsPayloadFault fleet.now me payloads.now) }
 {
@@ -116,6 +117,7 @@ fn node_over_log<'f>(
     content: &LoadedContent,
 ) -> Result<(Node<'f>, Log), LoadFault>
     requires within { me < length fleet.now.tree }
+    requires small { FitAJournal content.now.rest.items }
     ensures ok { IfOk result (λ x. IsNodeOf fleet.now me content.now.rest.items x.0 × (x.1 ≡ log)) }
     ensures fault { IfErr result (IsPayloadFault fleet.now me content.now.rest) }
 {
@@ -175,18 +177,6 @@ fn boot<D: Disk>(
     }
 }
 
-// May the node start: is there room in a minion's own log?
-fn may_start(node: &Node) -> bool
-    ensures yes { result ≡ true → MayAddIfAny (start_at node.now.fleet.tree node.now.me) node.now }
-    ensures no { result ≡ false → LacksStartRoom node.now }
-{
-    if node.fleet().is_minion(node.me()) {
-        node.has_room(&Deed::Boot)
-    } else {
-        true
-    }
-}
-
 // Starts a node over its log, which was just loaded: a minion adds its start, and a master nothing.
 fn start<D: Disk>(
     alloc: Global,
@@ -241,12 +231,6 @@ pub fn load<'f, D: Disk>(
         Ok(read) => read,
         Err(fault) => return Err(fault),
     };
-    if !may_start(&node) {
-        return Err(LoadFault::Damaged {
-            part: log.part(),
-            at: log.length(),
-        });
-    }
     let mut lost = false;
     match start(alloc, &mut node, &mut log, &mut lost, disk) {
         Ok(()) => Ok(JournalledNode::new(alloc, node, log)),

@@ -1,6 +1,22 @@
-use Rattle.std.proofs.Common.{◌≡◌, refl}
-use Rattle.journalled_node.proofs.Loads.{read_there, read_not}
+use Rattle.std.proofs.Common.{◌≡◌, refl, arith}
+use Rattle.journalled_node.proofs.Loads.{read_at, read_there, read_not}
 use Rattle.journalled_node.proofs.loading.read_node.Goals as goal
+
+pub returns-in-Ok-clause-ok : goal.returns-in-Ok-clause-ok
+returns-in-Ok-clause-ok g c =
+    let size = c.in-Ok.ensures.size in
+    let counts = size.counts in
+    let within = size.within in
+    let most = size.greatest in
+    read_at c.args.fleet.now c.args.me c.in-Ok.log c.in-Ok.content.rest.items (omega (arith, counts, within, most)) c.in-Ok.ensures.log.0 c.node_over_log.result c.node_over_log.ensures.ok
+
+pub requires-node_over_log-small : goal.requires-node_over_log-small
+requires-node_over_log-small g c =
+    let size = c.in-Ok.ensures.size in
+    let counts = size.counts in
+    let within = size.within in
+    let most = size.greatest in
+    omega (arith, counts, within, most)
 
 pub returns-in-Ok-clause-disk : goal.returns-in-Ok-clause-disk
 returns-in-Ok-clause-disk g c = λ told.
