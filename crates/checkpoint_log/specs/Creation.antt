@@ -1,5 +1,5 @@
 -- How a log is made, and what a crash leaves of one that is being made.
-use Rattle.std.specs.Prelude.{◌≡◌, ◌⊎◌, ◌<◌, ◌≤◌, ℕ, Option, MatchOption, length, Result, IfOk, IsErrOf}
+use Rattle.std.specs.Prelude.{◌≡◌, ◌⊎◌, ◌<◌, ◌≤◌, ℕ, Option, MatchOption, length, Result, IfOk, OnOk, IsErrOf}
 use Rattle.salt_disk.specs.declared.disk.Disk.{Ghosts}
 use Rattle.salt_disk.specs.declared.disk.Part.{Part}
 use Rattle.salt_disk.specs.declared.disk.Part.TheVariants.{Root, Even}
@@ -9,7 +9,7 @@ use Rattle.gate_journal.specs.declared.fault.CreateFault.{CreateFault}
 use Rattle.gate_journal.specs.declared.fault.CreateFault.TheVariants.{NotEmpty, Disk}
 use Rattle.gate_journal.specs.Layout.{fresh_length}
 use Rattle.gate_journal.specs.Creation.{IsFresh}
-use Rattle.gate_journal.specs.Calls.{LeavesAsBefore}
+use Rattle.gate_journal.specs.Calls.{LeavesAsBefore, BurnsAtOk}
 use Rattle.checkpoint_log.specs.Content.{LogContent, first_content, IsLog, bytes_in}
 
 -- A log of this limit stands on the disk as it is made: both journals are empty, at rest and with nothing behind them.
@@ -64,6 +64,20 @@ RefusesOneLong disk result = (n : ℕ) → HasLong disk n → IsErrOf result (No
 -- Where a part is longer than an empty journal, the disk stays as it was.
 abbrev pub StaysIfOneIsLong : {D : Type 0} → Ghosts D → D → D → Type 0
 StaysIfOneIsLong disk old new = (n : ℕ) → HasLong (disk.state old) n → Stays disk.past disk.state old new
+
+-- What a create of a log of this limit leaves, and why it is refused, on a disk that tells what it holds.
+pub record CreatesLog {D T : Type 0} (disk : Ghosts D) (old new : D) (limit : ℕ) (result : Result T CreateFault) : Type 0 where
+  -- at Ok an empty log of this limit is there
+  pub ok : OnOk result (IsFreshLog limit (disk.state new))
+  -- a crash at any moment leaves no log that loads, or an empty one; where a part is longer than an empty journal, what it could leave before
+  pub any_moment : LeavesNoPayloadIfShort disk old new
+  pub long_moment : LeavesAsBeforeIfOneIsLong disk old new
+  -- it makes eight changing calls
+  pub fuse : BurnsAtOk 8 disk.fuse Disk old new result
+  -- a part that is longer than an empty journal is the one cause beside the disk, and always told
+  pub not_empty : TellsLong disk old new result
+  pub complete : RefusesOneLong (disk.state old) result
+  pub same : StaysIfOneIsLong disk old new
 
 -- At Ok the answer is the length of the first part that is too long, if there is one. No public contract cites it.
 abbrev pub FindsLong : {E : Type 0} → DiskState → Result (Option ℕ) E → Type 0

@@ -3,10 +3,10 @@ ghost use Rattle.std.specs.Prelude.{◌≡◌, ◌≤◌, false, length, IfOk, O
 ghost use Rattle.salt_disk.specs.declared.disk.Part.TheVariants.{Even};
 ghost use Rattle.salt_outside.specs.Causes.{CountsFailures};
 ghost use Rattle.gate_journal.specs.Layout.{least_limit, greatest_limit};
-ghost use Rattle.gate_journal.specs.Calls.{LeavesAsBefore, BurnsAtOk};
+ghost use Rattle.gate_journal.specs.Calls.{LeavesAsBefore};
 ghost use Rattle.gate_journal.specs.Append.{after_append, LeavesAsBeforeIfDown, DownExactly, FullExactly};
 ghost use Rattle.checkpoint_log.specs.Content.{StandsAsLog, bytes_in};
-ghost use Rattle.checkpoint_log.specs.Creation.{IsFreshLog, IsSettledForLog, LeavesNoPayloadIfShort, LeavesAsBeforeIfOneIsLong, TellsLong, RefusesOneLong, StaysIfOneIsLong};
+ghost use Rattle.checkpoint_log.specs.Creation.{IsSettledForLog, CreatesLog};
 ghost use Rattle.checkpoint_log.specs.Loading.{HoldsLoaded, LoadsUpLog, LoadsWithin, TellsLogFault, AnswersEachLog, KeepsAllBytes, SettlesAll, BurnsByLoad, HasUpJournal, IsOfBytes, GivesGeneration};
 ghost use Rattle.checkpoint_log.specs.Additions.{HoldsContentAfter, LeavesOldOrNewLog, LeavesLogByAnswer, BurnsByLogAppend};
 
@@ -45,20 +45,7 @@ impl Log {
         requires least { least_limit ≤ limit }
         requires greatest { limit ≤ greatest_limit }
         requires settled { D.is_told → IsSettledForLog (D.state disk.old) }
-        ensures ok { D.is_told → OnOk result (IsFreshLog limit (D.state disk.new)) }
-
-        // A crash at any moment leaves no log that loads, or an empty one. Where a part is longer than an empty journal,
-        // it leaves what it could leave before.
-        ensures any_moment { D.is_told → LeavesNoPayloadIfShort D.Disk disk.old disk.new }
-        ensures long_moment { D.is_told → LeavesAsBeforeIfOneIsLong D.Disk disk.old disk.new }
-
-        // It makes eight changing calls.
-        ensures fuse { D.is_told → BurnsAtOk 8 D.fuse CreateFault.Disk disk.old disk.new result }
-
-        // The causes.
-        ensures not_empty { D.is_told → TellsLong D.Disk disk.old disk.new result }
-        ensures complete { D.is_told → RefusesOneLong (D.state disk.old) result }
-        ensures same { D.is_told → StaysIfOneIsLong D.Disk disk.old disk.new }
+        ensures made { D.is_told → CreatesLog D.Disk disk.old disk.new limit result }
         ensures faults { CountsFailures D.faults CreateFault.Disk disk.old disk.new result }
     {
         match long_part(disk) {

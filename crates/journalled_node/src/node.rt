@@ -2,9 +2,8 @@
 ghost use Rattle.std.specs.Prelude.{◌≡◌, ◌<◌, ◌≤◌, false, length, Ok, Err, IfOk, IfErr, IfSome, OnOk, OnErr};
 ghost use Rattle.salt_outside.specs.Causes.{CountsFailures};
 ghost use Rattle.gate_journal.specs.Layout.{least_limit, greatest_limit};
-ghost use Rattle.gate_journal.specs.Calls.{BurnsAtOk};
 ghost use Rattle.checkpoint_log.specs.Content.{bytes_in};
-ghost use Rattle.checkpoint_log.specs.Creation.{IsFreshLog, IsSettledForLog, LeavesNoPayloadIfShort, LeavesAsBeforeIfOneIsLong, TellsLong, RefusesOneLong, StaysIfOneIsLong};
+ghost use Rattle.checkpoint_log.specs.Creation.{IsSettledForLog, CreatesLog};
 ghost use Rattle.salt_wire.specs.Limits.{Within};
 ghost use Rattle.node_core.specs.Node.{TakesMessage, IsSamePlace, IsCounted};
 ghost use Rattle.node_core.specs.Publications.{order, PublishesOrder};
@@ -70,13 +69,7 @@ impl<'f> JournalledNode<'f> {
         requires least { least_limit ≤ limit }
         requires greatest { limit ≤ greatest_limit }
         requires settled { D.is_told → IsSettledForLog (D.state disk.old) }
-        ensures ok { D.is_told → OnOk result (IsFreshLog limit (D.state disk.new)) }
-        ensures any_moment { D.is_told → LeavesNoPayloadIfShort D.Disk disk.old disk.new }
-        ensures long_moment { D.is_told → LeavesAsBeforeIfOneIsLong D.Disk disk.old disk.new }
-        ensures fuse { D.is_told → BurnsAtOk 8 D.fuse CreateFault.Disk disk.old disk.new result }
-        ensures not_empty { D.is_told → TellsLong D.Disk disk.old disk.new result }
-        ensures complete { D.is_told → RefusesOneLong (D.state disk.old) result }
-        ensures same { D.is_told → StaysIfOneIsLong D.Disk disk.old disk.new }
+        ensures made { D.is_told → CreatesLog D.Disk disk.old disk.new limit result }
         ensures faults { CountsFailures D.faults CreateFault.Disk disk.old disk.new result }
     {
         Log::create(disk, limit)
