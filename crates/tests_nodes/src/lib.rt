@@ -4,8 +4,6 @@
 #[cfg(test)]
 mod fleets;
 #[cfg(test)]
-mod made;
-#[cfg(test)]
 mod minions;
 #[cfg(test)]
 mod nodes;

@@ -5,9 +5,9 @@ ghost use Rattle.salt_wire.specs.Limits.{Within};
 ghost use Rattle.node_core.specs.Node.{IsCounted};
 ghost use Rattle.journalled_node.specs.State.{StandsIfUp};
 
-use crate::made::{FAILED, grown, id, job, word};
 use checkpoint_log::Log;
 use fleet_config::Fleet;
+use gate_journal::{CreateFault, Journal};
 use journal_records::write_record;
 use journalled_node::{JournalledNode, LoadFault, PublishFault, TakeFault};
 use node_core::{PublishRefusal, Stray};
@@ -17,6 +17,13 @@ use salt_wire::{Deed, Entry, Message};
 use std::alloc::Global;
 use std::process::Abort;
 use target_tree::{Kind, TargetFault};
+use test_fixtures::{FAILED, TREE, grown, id, job_for, ping, word};
+
+// The target that all minions are.
+const EVERYONE: (Kind, &str) = (Kind::Glob, "*");
+
+// The text of a target whose second leaf has a pattern that is too big.
+const TOO_BIG: &str = "m* or E@(a{1000}){1000}";
 
 /// A call on a node that was just loaded.
 #[derive(Clone, Copy, Debug)]
@@ -25,10 +32,12 @@ enum Call {
     Load,
     /// An order at the top: `test.ping` for all minions, at this moment.
     Publish(u64),
-    /// An order at the top whose target is no text of a target.
-    PublishNothing,
+    /// The same at moment 7 for a target by its text of this kind.
+    PublishFor(Kind, &'static str),
     /// The job with this number from this node, by the moment of its jid.
     Job(u32, u32, u64),
+    /// The first job from this node, for a target by its text of this kind.
+    JobFor(u32, Kind, &'static str),
     /// The entry with this number of a minion from this node: that it has started.
     Start(u32, &'static str, u32),
 }
@@ -59,11 +68,11 @@ fn start_of(rt: &impl Abort, minion: &str, n: u32) -> Message
     Message::Up { minion, n, entry }
 }
 
-fn job_of(rt: &impl Abort, alloc: Global, seq: u32, moment: u64) -> Message
+fn job_of(rt: &impl Abort, alloc: Global, seq: u32, moment: u64, aim: (Kind, &str)) -> Message
     ensures value { Within result }
     ensures counted { IsCounted result }
 {
-    let job = job(rt, alloc, moment);
+    let job = job_for(rt, alloc, moment, aim.0, aim.1, "test.ping", &[]);
     Message::Pub { seq, job }
 }
 
@@ -100,13 +109,13 @@ fn take_job(
     node: &mut JournalledNode,
     disk: &mut MemDisk,
     from: u32,
-    seq: u32,
-    moment: u64,
+    (seq, moment): (u32, u64),
+    aim: (Kind, &str),
 ) -> Ending
     requires { StandsIfUp ⟦<MemDisk as Disk>⟧ disk.old node.old }
     ensures { StandsIfUp ⟦<MemDisk as Disk>⟧ disk.new node.new }
 {
-    let message = job_of(rt, alloc, seq, moment);
+    let message = job_of(rt, alloc, seq, moment, aim);
     replied(&node.take(disk, NodeId::new(from), &message))
 }
 
@@ -116,7 +125,7 @@ fn publish(
     node: &mut JournalledNode,
     disk: &mut MemDisk,
     moment: u64,
-    tgt: &str,
+    (kind, tgt): (Kind, &str),
 ) -> Ending
     requires { StandsIfUp ⟦<MemDisk as Disk>⟧ disk.old node.old }
     ensures { StandsIfUp ⟦<MemDisk as Disk>⟧ disk.new node.new }
@@ -125,7 +134,7 @@ fn publish(
     if node.node().me().place() != 0 {
         return Ending::Other;
     }
-    match node.publish(disk, moment, Kind::Glob, tgt, &ping, &[]) {
+    match node.publish(disk, moment, kind, tgt, &ping, &[]) {
         Ok(_) => Ending::Published,
         Err(fault) => Ending::Unpublished(fault),
     }
@@ -143,9 +152,14 @@ fn ask(
 {
     match call {
         Call::Load => Ending::Loaded,
-        Call::Publish(moment) => publish(rt, alloc, node, disk, moment, "*"),
-        Call::PublishNothing => publish(rt, alloc, node, disk, 7, ""),
-        Call::Job(from, seq, moment) => take_job(rt, alloc, node, disk, from, seq, moment),
+        Call::Publish(moment) => publish(rt, alloc, node, disk, moment, EVERYONE),
+        Call::PublishFor(kind, tgt) => publish(rt, alloc, node, disk, 7, (kind, tgt)),
+        Call::Job(from, seq, moment) => {
+            take_job(rt, alloc, node, disk, from, (seq, moment), EVERYONE)
+        }
+        Call::JobFor(from, kind, tgt) => {
+            take_job(rt, alloc, node, disk, from, (0, 7), (kind, tgt))
+        }
         Call::Start(from, minion, n) => take_start(rt, node, disk, from, minion, n),
     }
 }
@@ -300,7 +314,7 @@ static HELD: [(u32, usize); 3] = [(2, 2), (2, 1), (2, 6)];
 #[test]
 fn nodes_go_on_with_their_records(rt: HostRuntime) {
     let alloc = rt.alloc();
-    let fleet = grown(&rt, alloc);
+    let fleet = grown(&rt, alloc, &TREE);
     for ((me, steps), wanted) in STEPS.iter().zip(HELD.iter()) {
         let mut disk = fresh(&rt, alloc, 4096);
         does(&rt, alloc, &fleet, *me, &mut disk, steps);
@@ -377,7 +391,7 @@ fn leaves(rt: &impl Abort, alloc: Global, fleet: &Fleet, stopped: Stopped, crash
 #[test]
 fn what_a_stop_leaves_of_a_call(rt: HostRuntime) {
     let alloc = rt.alloc();
-    let fleet = grown(&rt, alloc);
+    let fleet = grown(&rt, alloc, &TREE);
     for stopped in &STOPPED {
         for pick in &PICKS {
             for cut in &CUTS {
@@ -414,7 +428,7 @@ fn starts(rt: &impl Abort, alloc: Global, fleet: &Fleet, load: (u64, u8, usize))
 #[test]
 fn what_a_stop_leaves_of_a_load(rt: HostRuntime) {
     let alloc = rt.alloc();
-    let fleet = grown(&rt, alloc);
+    let fleet = grown(&rt, alloc, &TREE);
     for load in &LOADS {
         starts(&rt, alloc, &fleet, *load);
     }
@@ -470,21 +484,25 @@ fn fails(rt: &impl Abort, alloc: Global, fleet: &Fleet, failing: Failing) {
 #[test]
 fn a_node_is_down_after_its_disk_failed(rt: HostRuntime) {
     let alloc = rt.alloc();
-    let fleet = grown(&rt, alloc);
+    let fleet = grown(&rt, alloc, &TREE);
     for failing in &FAILING {
         fails(&rt, alloc, &fleet, *failing);
     }
 }
 
 // The top's refusals, after which the next order is published as if they had not been.
-static REFUSED: [(Call, Ending); 3] = [
+static REFUSED: [(Call, Ending); 4] = [
     (
-        Call::PublishNothing,
+        Call::PublishFor(Kind::Glob, ""),
         Ending::Unpublished(PublishFault::Refused {
             cause: PublishRefusal::Target {
                 fault: TargetFault::Empty,
             },
         }),
+    ),
+    (
+        Call::PublishFor(Kind::Compound, TOO_BIG),
+        Ending::Unpublished(PublishFault::TooBig { leaf: 1 }),
     ),
     (
         Call::Job(1, 0, 7),
@@ -495,13 +513,31 @@ static REFUSED: [(Call, Ending); 3] = [
     (Call::Publish(7), Ending::Published),
 ];
 
+// A minion's, after which it runs the next job under the same number.
+static UNTAKEN: [(Call, Ending); 3] = [
+    (
+        Call::JobFor(1, Kind::Compound, TOO_BIG),
+        Ending::Untaken(TakeFault::TooBig { leaf: 1 }),
+    ),
+    (
+        Call::JobFor(1, Kind::Pcre, "("),
+        Ending::Untaken(TakeFault::Stray {
+            cause: Stray::BadPattern { leaf: 0 },
+        }),
+    ),
+    (Call::Job(1, 0, 7), Ending::Jobs(1)),
+];
+
 #[test]
 fn what_is_refused_leaves_no_record(rt: HostRuntime) {
     let alloc = rt.alloc();
-    let fleet = grown(&rt, alloc);
+    let fleet = grown(&rt, alloc, &TREE);
     let mut disk = fresh(&rt, alloc, 4096);
     does(&rt, alloc, &fleet, 0, &mut disk, &REFUSED);
     holds(&rt, alloc, &fleet, 0, &mut disk, (1, 0));
+    let mut minion = fresh(&rt, alloc, 4096);
+    does(&rt, alloc, &fleet, 2, &mut minion, &UNTAKEN);
+    holds(&rt, alloc, &fleet, 2, &mut minion, (1, 5));
 }
 
 // A journal of 64 bytes has room for seven starts, of six bytes each behind the first seventeen.
@@ -547,7 +583,7 @@ static ONE_JOB: [(Call, Ending); 2] = [
 #[test]
 fn a_full_journal(rt: HostRuntime) {
     let alloc = rt.alloc();
-    let fleet = grown(&rt, alloc);
+    let fleet = grown(&rt, alloc, &TREE);
     let mut disk = fresh(&rt, alloc, 64);
     fills(&rt, alloc, &fleet, &mut disk);
     let mut top = fresh(&rt, alloc, 64);
@@ -642,7 +678,7 @@ fn finds(
 #[test]
 fn strange_records_are_damage(rt: HostRuntime) {
     let alloc = rt.alloc();
-    let fleet = grown(&rt, alloc);
+    let fleet = grown(&rt, alloc, &TREE);
     for (payloads, me, place) in &DAMAGE {
         let mut disk = with_payloads(&rt, alloc, payloads);
         finds(&rt, alloc, &fleet, *me, &mut disk, found(*place));
@@ -651,14 +687,14 @@ fn strange_records_are_damage(rt: HostRuntime) {
 
 // The record of a publication with the jid of this moment.
 fn published(rt: &impl Abort, alloc: Global, moment: u64) -> Vec<u8> {
-    let job = job(rt, alloc, moment);
+    let job = ping(rt, alloc, moment);
     write_record(alloc, &Deed::Publish { job }).expect(rt, FAILED)
 }
 
 #[test]
 fn a_jid_that_does_not_rise_is_damage(rt: HostRuntime) {
     let alloc = rt.alloc();
-    let fleet = grown(&rt, alloc);
+    let fleet = grown(&rt, alloc, &TREE);
     let record = published(&rt, alloc, 7);
     let mut disk = fresh(&rt, alloc, 4096);
     add(&rt, alloc, &mut disk, record.as_slice());
@@ -672,7 +708,7 @@ fn a_jid_that_does_not_rise_is_damage(rt: HostRuntime) {
 #[test]
 fn a_disk_without_a_journal(rt: HostRuntime) {
     let alloc = rt.alloc();
-    let fleet = grown(&rt, alloc);
+    let fleet = grown(&rt, alloc, &TREE);
     let mut disk = MemDisk::new(alloc);
     finds(
         &rt,
@@ -682,4 +718,49 @@ fn a_disk_without_a_journal(rt: HostRuntime) {
         &mut disk,
         Ending::Unloaded(LoadFault::NotAJournal),
     );
+}
+
+// Adds a payload to the journal on the root of a disk.
+fn add_to_root(rt: &impl Abort, alloc: Global, disk: &mut MemDisk, payload: &[u8]) {
+    match Journal::load(alloc, disk, Part::Root) {
+        Ok((mut journal, _payloads)) => journal.append(alloc, disk, payload).expect(rt, FAILED),
+        Err(_) => panic!(rt; "{FAILED}"),
+    }
+}
+
+#[test]
+fn a_root_with_a_record_is_damaged(rt: HostRuntime) {
+    let alloc = rt.alloc();
+    let fleet = grown(&rt, alloc, &TREE);
+    let mut disk = fresh(&rt, alloc, 4096);
+    add_to_root(&rt, alloc, &mut disk, b"\x06");
+    let damaged = Ending::Unloaded(LoadFault::Damaged {
+        part: Part::Root,
+        at: 16,
+    });
+    finds(&rt, alloc, &fleet, 2, &mut disk, damaged);
+}
+
+// A crash, and then a create.
+fn create_after(disk: &mut MemDisk) -> Result<(), CreateFault> {
+    match disk.crash(0, 0) {
+        Ok(()) => JournalledNode::create(disk, 4096),
+        Err(_) => Err(CreateFault::NoMemory),
+    }
+}
+
+fn is_created(rt: &impl Abort, disk: &mut MemDisk, wanted: Result<(), CreateFault>) {
+    assert_eq!(rt; create_after(disk), wanted);
+}
+
+// A log without a record is made again; one with a record of one byte has six bytes more than seventeen, and stays.
+#[test]
+fn a_log_with_a_record_is_not_made_again(rt: HostRuntime) {
+    let alloc = rt.alloc();
+    let fleet = grown(&rt, alloc, &TREE);
+    let mut disk = fresh(&rt, alloc, 4096);
+    is_created(&rt, &mut disk, Ok(()));
+    add(&rt, alloc, &mut disk, b"\x06");
+    is_created(&rt, &mut disk, Err(CreateFault::NotEmpty { length: 23 }));
+    holds(&rt, alloc, &fleet, 2, &mut disk, (0, 2));
 }

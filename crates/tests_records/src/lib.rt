@@ -4,6 +4,4 @@
 #[cfg(test)]
 mod journals;
 #[cfg(test)]
-mod made;
-#[cfg(test)]
 mod records;

@@ -4,8 +4,6 @@
 #[cfg(test)]
 mod logs;
 #[cfg(test)]
-mod made;
-#[cfg(test)]
 mod masters;
 #[cfg(test)]
 mod stores;
