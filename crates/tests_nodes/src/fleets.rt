@@ -1,4 +1,7 @@
 //! Fleets: how they grow, and what they tell of their nodes.
+use crate::made::{
+    FAILED, Given, HOLDERS, Sown, TREE, group, grown, id, pair, peopled, plant, sow, value,
+};
 use exec_functions::Holdings;
 use fleet_config::{Fleet, FleetNode, MOST_JOBS, MOST_JOURNAL_LIMIT, NodeFault, Role};
 use salt_value::{Fields, MinionId, NodeId, Value};
@@ -6,9 +9,6 @@ use sqlite_items::Items;
 use std::alloc::{AllocError, Global};
 use std::process::Abort;
 use target_tree::GroupFault;
-use test_fixtures::{
-    FAILED, Given, HOLDERS, Sown, TREE, group, grown, id, pair, peopled, plant, sow, value,
-};
 
 // Nodes that are added in order to a fleet, and what it answers: the place, or why it stays as it was.
 static GROWTH: [(Sown, Result<u32, NodeFault>); 22] = [

@@ -4,6 +4,8 @@
 #[cfg(test)]
 mod fleets;
 #[cfg(test)]
+mod made;
+#[cfg(test)]
 mod minions;
 #[cfg(test)]
 mod nodes;

@@ -4,6 +4,7 @@ ghost use Rattle.flat_fleet.specs.Reports.{AreBuiltOf};
 ghost use Rattle.minion_core.specs.Limits.{DeedFits};
 ghost use Rattle.salt_wire.specs.Limits.{JobFits};
 
+use crate::made::{FAILED, HOLDERS, holdings, id, job, job_for};
 use exec_functions::Holdings;
 use flat_fleet::{FlatMinion, FlatReport, first_jobs_decide, flat_reports};
 use minion_core::{MinionCore, RunFault, does_hold, does_hold_with, flat_by_steps, job_record};
@@ -13,7 +14,6 @@ use std::alloc::{AllocError, Global};
 use std::process::Abort;
 use target_match::Matcher;
 use target_tree::Kind;
-use test_fixtures::{FAILED, HOLDERS, holdings, id, job, job_for};
 
 // The number that a value is, and -1 of another one.
 fn number_of(value: Option<&Value>) -> i64 {

@@ -1,4 +1,5 @@
 //! The nodes of a flat fleet, step by step. The expectations are worked out by hand from the rules of a call.
+use crate::made::{FAILED, pair, word};
 use crate::steps::{
     Asked, Reply, Sent, Step, has_jobs, has_outcomes, has_returns, publish, start_at, takes, tells,
 };
@@ -8,7 +9,6 @@ use salt_value::Word;
 use std::alloc::Global;
 use std::process::Abort;
 use target_tree::{Kind, TargetFault};
-use test_fixtures::{FAILED, pair, word};
 
 // How many of so many publications are accepted before one is refused.
 fn publish_all(rt: &impl Abort, top: &mut Node, tgt: &str, ping: &Word, count: u32) -> u32 {

@@ -1,11 +1,11 @@
 //! Orders at a top: what it publishes, and why it refuses the rest.
+use crate::made::{FAILED, Given, group, pair, value, word};
 use crate::steps::{publish, start_at};
 use node_core::{Node, PublishFault, PublishRefusal};
 use salt_value::{Items, Word};
 use std::alloc::Global;
 use std::process::Abort;
 use target_tree::{Kind, TargetFault};
-use test_fixtures::{FAILED, Given, group, pair, value, word};
 
 // A moment, the kind and the text of a target, an argument, and why the order is refused, if it is.
 type Order = (u64, Kind, &'static str, Given, Option<PublishFault>);

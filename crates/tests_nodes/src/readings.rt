@@ -1,11 +1,11 @@
 //! What a node tells of itself: at the top, at a syndic and at a minion of a tree, as it starts and later.
+use crate::made::{FAILED, TREE, grown, id, word};
 use crate::steps::{Reply, Sent, Step, publish, start_at, takes};
 use job_store::JobStore;
 use node_core::Node;
 use salt_value::NodeId;
 use std::process::Abort;
 use target_tree::Kind;
-use test_fixtures::{FAILED, TREE, grown, id, word};
 
 /// A reading call on a node.
 #[derive(Clone, Copy, Debug)]

@@ -4,6 +4,7 @@ ghost use Rattle.std.specs.Bool.{OnTrue};
 ghost use Rattle.node_core.specs.Node.{IsCounted};
 ghost use Rattle.salt_wire.specs.Limits.{Within, EntryFits};
 
+use crate::made::{FAILED, id, job, job_for, word};
 use fleet_config::Fleet;
 use node_core::{Node, PendFault, PublishFault, Stray, TakeFault};
 use salt_value::{Event, Fields, Jid, NodeId, Outcome, Value, Word};
@@ -11,7 +12,6 @@ use salt_wire::{Entry, Message};
 use std::alloc::Global;
 use std::process::Abort;
 use target_tree::Kind;
-use test_fixtures::{FAILED, id, job, job_for, word};
 
 /// A message that a step sends.
 #[derive(Clone, Copy, Debug)]

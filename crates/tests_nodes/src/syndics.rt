@@ -1,10 +1,10 @@
 //! A syndic of a tree: jobs go down through it, and entries up.
+use crate::made::{FAILED, TREE, grown, word};
 use crate::steps::{
     Asked, Reply, Sent, Step, has_jobs, has_returns, publish, start_at, takes, tells,
 };
 use node_core::Stray;
 use target_tree::Kind;
-use test_fixtures::{FAILED, TREE, grown, word};
 
 // What the syndic at place 1 answers: the top is its parent, and the minion at place 2 and the syndic at place 3 its
 // children.

@@ -1,10 +1,10 @@
 //! Jobs for targets of each kind: each minion runs those that are meant for it, on what it holds then.
+use crate::made::{FAILED, HOLDERS, arguments, group, peopled, word};
 use crate::steps::{has_outcomes, jobs_for, publish, start_at, takes_jobs};
 use node_core::Node;
 use std::alloc::Global;
 use std::process::Abort;
 use target_tree::Kind;
-use test_fixtures::{FAILED, HOLDERS, arguments, group, peopled, word};
 
 // The kind and the text of a target, a function, and its arguments.
 type Order = (Kind, &'static str, &'static str, &'static [&'static str]);

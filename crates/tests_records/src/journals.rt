@@ -5,6 +5,7 @@ ghost use Rattle.salt_wire.specs.Limits.{Within};
 ghost use Rattle.node_core.specs.Node.{IsCounted};
 ghost use Rattle.journalled_node.specs.State.{StandsIfUp};
 
+use crate::made::{FAILED, grown, id, job, job_for, word};
 use checkpoint_log::Log;
 use fleet_config::Fleet;
 use gate_journal::{CreateFault, Journal};
@@ -17,7 +18,6 @@ use salt_wire::{Deed, Entry, Message};
 use std::alloc::Global;
 use std::process::Abort;
 use target_tree::{Kind, TargetFault};
-use test_fixtures::{FAILED, TREE, grown, id, job_for, ping, word};
 
 // The target that all minions are.
 const EVERYONE: (Kind, &str) = (Kind::Glob, "*");
@@ -72,7 +72,7 @@ fn job_of(rt: &impl Abort, alloc: Global, seq: u32, moment: u64, aim: (Kind, &st
     ensures value { Within result }
     ensures counted { IsCounted result }
 {
-    let job = job_for(rt, alloc, moment, aim.0, aim.1, "test.ping", &[]);
+    let job = job_for(rt, alloc, moment, aim.0, aim.1);
     Message::Pub { seq, job }
 }
 
@@ -314,7 +314,7 @@ static HELD: [(u32, usize); 3] = [(2, 2), (2, 1), (2, 6)];
 #[test]
 fn nodes_go_on_with_their_records(rt: HostRuntime) {
     let alloc = rt.alloc();
-    let fleet = grown(&rt, alloc, &TREE);
+    let fleet = grown(&rt, alloc);
     for ((me, steps), wanted) in STEPS.iter().zip(HELD.iter()) {
         let mut disk = fresh(&rt, alloc, 4096);
         does(&rt, alloc, &fleet, *me, &mut disk, steps);
@@ -391,7 +391,7 @@ fn leaves(rt: &impl Abort, alloc: Global, fleet: &Fleet, stopped: Stopped, crash
 #[test]
 fn what_a_stop_leaves_of_a_call(rt: HostRuntime) {
     let alloc = rt.alloc();
-    let fleet = grown(&rt, alloc, &TREE);
+    let fleet = grown(&rt, alloc);
     for stopped in &STOPPED {
         for pick in &PICKS {
             for cut in &CUTS {
@@ -428,7 +428,7 @@ fn starts(rt: &impl Abort, alloc: Global, fleet: &Fleet, load: (u64, u8, usize))
 #[test]
 fn what_a_stop_leaves_of_a_load(rt: HostRuntime) {
     let alloc = rt.alloc();
-    let fleet = grown(&rt, alloc, &TREE);
+    let fleet = grown(&rt, alloc);
     for load in &LOADS {
         starts(&rt, alloc, &fleet, *load);
     }
@@ -484,7 +484,7 @@ fn fails(rt: &impl Abort, alloc: Global, fleet: &Fleet, failing: Failing) {
 #[test]
 fn a_node_is_down_after_its_disk_failed(rt: HostRuntime) {
     let alloc = rt.alloc();
-    let fleet = grown(&rt, alloc, &TREE);
+    let fleet = grown(&rt, alloc);
     for failing in &FAILING {
         fails(&rt, alloc, &fleet, *failing);
     }
@@ -531,7 +531,7 @@ static UNTAKEN: [(Call, Ending); 3] = [
 #[test]
 fn what_is_refused_leaves_no_record(rt: HostRuntime) {
     let alloc = rt.alloc();
-    let fleet = grown(&rt, alloc, &TREE);
+    let fleet = grown(&rt, alloc);
     let mut disk = fresh(&rt, alloc, 4096);
     does(&rt, alloc, &fleet, 0, &mut disk, &REFUSED);
     holds(&rt, alloc, &fleet, 0, &mut disk, (1, 0));
@@ -583,7 +583,7 @@ static ONE_JOB: [(Call, Ending); 2] = [
 #[test]
 fn a_full_journal(rt: HostRuntime) {
     let alloc = rt.alloc();
-    let fleet = grown(&rt, alloc, &TREE);
+    let fleet = grown(&rt, alloc);
     let mut disk = fresh(&rt, alloc, 64);
     fills(&rt, alloc, &fleet, &mut disk);
     let mut top = fresh(&rt, alloc, 64);
@@ -678,7 +678,7 @@ fn finds(
 #[test]
 fn strange_records_are_damage(rt: HostRuntime) {
     let alloc = rt.alloc();
-    let fleet = grown(&rt, alloc, &TREE);
+    let fleet = grown(&rt, alloc);
     for (payloads, me, place) in &DAMAGE {
         let mut disk = with_payloads(&rt, alloc, payloads);
         finds(&rt, alloc, &fleet, *me, &mut disk, found(*place));
@@ -687,14 +687,14 @@ fn strange_records_are_damage(rt: HostRuntime) {
 
 // The record of a publication with the jid of this moment.
 fn published(rt: &impl Abort, alloc: Global, moment: u64) -> Vec<u8> {
-    let job = ping(rt, alloc, moment);
+    let job = job(rt, alloc, moment);
     write_record(alloc, &Deed::Publish { job }).expect(rt, FAILED)
 }
 
 #[test]
 fn a_jid_that_does_not_rise_is_damage(rt: HostRuntime) {
     let alloc = rt.alloc();
-    let fleet = grown(&rt, alloc, &TREE);
+    let fleet = grown(&rt, alloc);
     let record = published(&rt, alloc, 7);
     let mut disk = fresh(&rt, alloc, 4096);
     add(&rt, alloc, &mut disk, record.as_slice());
@@ -708,7 +708,7 @@ fn a_jid_that_does_not_rise_is_damage(rt: HostRuntime) {
 #[test]
 fn a_disk_without_a_journal(rt: HostRuntime) {
     let alloc = rt.alloc();
-    let fleet = grown(&rt, alloc, &TREE);
+    let fleet = grown(&rt, alloc);
     let mut disk = MemDisk::new(alloc);
     finds(
         &rt,
@@ -731,7 +731,7 @@ fn add_to_root(rt: &impl Abort, alloc: Global, disk: &mut MemDisk, payload: &[u8
 #[test]
 fn a_root_with_a_record_is_damaged(rt: HostRuntime) {
     let alloc = rt.alloc();
-    let fleet = grown(&rt, alloc, &TREE);
+    let fleet = grown(&rt, alloc);
     let mut disk = fresh(&rt, alloc, 4096);
     add_to_root(&rt, alloc, &mut disk, b"\x06");
     let damaged = Ending::Unloaded(LoadFault::Damaged {
@@ -757,7 +757,7 @@ fn is_created(rt: &impl Abort, disk: &mut MemDisk, wanted: Result<(), CreateFaul
 #[test]
 fn a_log_with_a_record_is_not_made_again(rt: HostRuntime) {
     let alloc = rt.alloc();
-    let fleet = grown(&rt, alloc, &TREE);
+    let fleet = grown(&rt, alloc);
     let mut disk = fresh(&rt, alloc, 4096);
     is_created(&rt, &mut disk, Ok(()));
     add(&rt, alloc, &mut disk, b"\x06");

@@ -1,4 +1,5 @@
 //! Which records a node may add next. The expectations are worked out by hand from the rule.
+use crate::made::{FAILED, grown, id, job, word};
 use fleet_config::Fleet;
 use node_core::{Node, records_by_calls};
 use salt_value::{Event, Fields, NodeId, Outcome, Value};
@@ -6,7 +7,6 @@ use salt_wire::{Deed, Entries, Entry, ReactDeeds};
 use std::alloc::Global;
 use std::process::Abort;
 use target_tree::Kind;
-use test_fixtures::{FAILED, TREE, grown, id, ping, word};
 
 /// An entry of a record.
 #[derive(Clone, Copy, Debug)]
@@ -69,10 +69,10 @@ fn entries(rt: &impl Abort, alloc: Global, all: &[Told]) -> Entries {
 fn deed(rt: &impl Abort, alloc: Global, noted: Noted) -> Deed {
     match noted {
         Noted::Published(moment) => Deed::Publish {
-            job: ping(rt, alloc, moment),
+            job: job(rt, alloc, moment),
         },
         Noted::Taken(moment) => Deed::Intake {
-            job: ping(rt, alloc, moment),
+            job: job(rt, alloc, moment),
         },
         Noted::Entry(minion, told) => Deed::Up {
             minion: id(rt, minion),
@@ -139,7 +139,7 @@ static AT_A_MINION: [(Noted, bool); 15] = [
 #[test]
 fn a_minion_adds_its_starts_and_its_first_job(rt: HostRuntime) {
     let alloc = rt.alloc();
-    let fleet = grown(&rt, alloc, &TREE);
+    let fleet = grown(&rt, alloc);
     let node = node_at(&rt, alloc, &fleet, 2);
     may_add(&rt, alloc, &node, &AT_A_MINION);
 }
@@ -182,7 +182,7 @@ fn publish(rt: &impl Abort, alloc: Global, top: &mut Node) {
 #[test]
 fn the_top_adds_publications_and_entries(rt: HostRuntime) {
     let alloc = rt.alloc();
-    let fleet = grown(&rt, alloc, &TREE);
+    let fleet = grown(&rt, alloc);
     let mut top = node_at(&rt, alloc, &fleet, 0);
     may_add(&rt, alloc, &top, &AT_THE_TOP);
     publish(&rt, alloc, &mut top);
@@ -203,7 +203,7 @@ static AT_A_SYNDIC: [(Noted, bool); 6] = [
 #[test]
 fn a_syndic_adds_jobs_from_its_parent_and_entries(rt: HostRuntime) {
     let alloc = rt.alloc();
-    let fleet = grown(&rt, alloc, &TREE);
+    let fleet = grown(&rt, alloc);
     let node = node_at(&rt, alloc, &fleet, 1);
     may_add(&rt, alloc, &node, &AT_A_SYNDIC);
 }

@@ -4,6 +4,8 @@
 #[cfg(test)]
 mod logs;
 #[cfg(test)]
+mod made;
+#[cfg(test)]
 mod masters;
 #[cfg(test)]
 mod stores;

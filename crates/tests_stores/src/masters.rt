@@ -3,13 +3,13 @@ ghost use Rattle.std.specs.Prelude.{◌≡◌, ◌<◌, ◌+◌, ◌^◌, length
 ghost use Rattle.job_store.specs.Store.{is_later_in, has_outcome};
 ghost use Rattle.master_core.specs.Master.{place_in, log_of_id};
 
+use crate::made::{FAILED, id, job, row};
 use job_store::JobStore;
 use master_core::MasterCore;
 use salt_value::{Ids, MinionId, Row};
 use salt_wire::{Deed, Entry, Job};
 use std::alloc::{AllocError, Global};
 use std::process::Abort;
-use test_fixtures::{FAILED, id, ping, row};
 
 // The moments of the jobs that are published, and then of those that are taken in.
 static PUBLISHED: [u64; 2] = [10, 20];
@@ -90,7 +90,7 @@ fn next_job(rt: &impl Abort, alloc: Global, core: &MasterCore, moment: u64) -> J
     ensures later { IsTrue (is_later_in core.now.store result) }
     ensures room { length core.now.store < 4_294_967_295 }
 {
-    let job = ping(rt, alloc, moment);
+    let job = job(rt, alloc, moment);
     if core.jobs().count() == u32::MAX {
         panic!(rt; "{FAILED}");
     }

@@ -1,8 +1,8 @@
 //! Jobs that are added to a store, what minions return of them, and what is found there.
+use crate::made::{FAILED, id, jid, job, row};
 use job_store::{AddFault, JobStore, PutFault, outcomes_by_steps};
 use std::alloc::Global;
 use std::process::Abort;
-use test_fixtures::{FAILED, id, jid, ping, row};
 
 // The moments of jobs, and what is answered to each.
 static ADDED: [(u64, Option<AddFault>); 5] = [
@@ -52,7 +52,7 @@ fn add(rt: &impl Abort, alloc: Global, store: &mut JobStore, moment: u64) -> Opt
     if store.count() == u32::MAX {
         panic!(rt; "{FAILED}");
     }
-    store.add(ping(rt, alloc, moment)).err()
+    store.add(job(rt, alloc, moment)).err()
 }
 
 fn adds(rt: &impl Abort, alloc: Global, store: &mut JobStore, rows: &[(u64, Option<AddFault>)]) {
