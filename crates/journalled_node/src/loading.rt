@@ -44,7 +44,7 @@ fn add_if_next(node: &mut Node, deed: Deed) -> Result<bool, AllocError>
 
 // Adds the record that these bytes are, where it is one that the node may add.
 fn add_payload(alloc: Global, node: &mut Node, payload: &[u8]) -> Result<bool, AllocError>
-    requires room { FindsRoom payload.now node.old }
+    requires { FindsRoom payload.now node.old }
     ensures ok { IfOk result (AddsPayload payload.now node.old node.new) }
 {
     match read_record(alloc, payload)? {

@@ -20,8 +20,8 @@ loop-i-preserved c =
     (subst (λ (p : List ℕ). AddsPayload p old new true) payload
     (subst (λ (b : Bool). AddsPayload c.as_slice.result.now old new b) yes c.in_ok-add_payload.ensures.ok))
 
-pub requires-add_payload-room : goal.requires-add_payload-room
-requires-add_payload-room c =
+pub add_payload-requires : goal.add_payload-requires
+add_payload-requires c =
     let found : List ℕ = c.index-payloads-i.result in
     let within : c.loop-i.i < length c.args.payloads.now = c.loop-i-test.true in
     let one = slice_get-get_or c.args.payloads.now c.loop-i.i found within in

@@ -9,8 +9,8 @@ pub returns-in-Err-clause-journal : goal.returns-in-Err-clause-journal
 returns-in-Err-clause-journal g c = λ told.
     kept_unread g.D.Disk c.args.disk.now c.read_node.new.disk c.args.fleet.now c.args.me c.in-Err.fault (c.in-Err.ensures.disk told)
 
-pub requires-start-next : goal.requires-start-next
-requires-start-next g c = may_start c.args.fleet.now c.args.me c.in-Ok.read c.in-Ok.ensures.ok
+pub start-requires-clause-next : goal.start-requires-clause-next
+start-requires-clause-next g c = may_start c.args.fleet.now c.args.me c.in-Ok.read c.in-Ok.ensures.ok
 
 pub returns-in-Ok-start-clause-place : goal.returns-in-Ok-start-clause-place
 returns-in-Ok-start-clause-place g c =

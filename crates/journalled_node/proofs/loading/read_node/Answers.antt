@@ -10,8 +10,8 @@ returns-in-Ok-clause-ok g c =
     let most = size.greatest in
     read_at c.args.fleet.now c.args.me c.in-Ok.log c.in-Ok.content.rest.items (omega (arith, counts, within, most)) c.in-Ok.ensures.log.0 c.node_over_log.result c.node_over_log.ensures.ok
 
-pub requires-node_over_log-small : goal.requires-node_over_log-small
-requires-node_over_log-small g c =
+pub node_over_log-requires-clause-small : goal.node_over_log-requires-clause-small
+node_over_log-requires-clause-small g c =
     let size = c.in-Ok.ensures.size in
     let counts = size.counts in
     let within = size.within in
