@@ -109,13 +109,13 @@ fn take_job(
     node: &mut JournalledNode,
     disk: &mut MemDisk,
     from: u32,
-    (seq, moment): (u32, u64),
+    number: (u32, u64),
     aim: (Kind, &str),
 ) -> Ending
     requires { StandsIfUp ⟦<MemDisk as Disk>⟧ disk.old node.old }
     ensures { StandsIfUp ⟦<MemDisk as Disk>⟧ disk.new node.new }
 {
-    let message = job_of(rt, alloc, seq, moment, aim);
+    let message = job_of(rt, alloc, number.0, number.1, aim);
     replied(&node.take(disk, NodeId::new(from), &message))
 }
 
@@ -125,7 +125,7 @@ fn publish(
     node: &mut JournalledNode,
     disk: &mut MemDisk,
     moment: u64,
-    (kind, tgt): (Kind, &str),
+    aim: (Kind, &str),
 ) -> Ending
     requires { StandsIfUp ⟦<MemDisk as Disk>⟧ disk.old node.old }
     ensures { StandsIfUp ⟦<MemDisk as Disk>⟧ disk.new node.new }
@@ -134,7 +134,7 @@ fn publish(
     if node.node().me().place() != 0 {
         return Ending::Other;
     }
-    match node.publish(disk, moment, kind, tgt, &ping, &[]) {
+    match node.publish(disk, moment, aim.0, aim.1, &ping, &[]) {
         Ok(_) => Ending::Published,
         Err(fault) => Ending::Unpublished(fault),
     }

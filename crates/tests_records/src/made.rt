@@ -83,7 +83,8 @@ fn job_of(
     rt: &impl Abort,
     alloc: Global,
     moment: u64,
-    (kind, tgt): (Kind, &str),
+    kind: Kind,
+    tgt: &str,
     target: Boxed<Target>,
     fun: Word,
 ) -> Job
@@ -118,7 +119,8 @@ pub fn job_for(rt: &impl Abort, alloc: Global, moment: u64, kind: Kind, tgt: &st
         rt,
         alloc,
         moment,
-        (kind, tgt),
+        kind,
+        tgt,
         tree(rt, alloc, kind, tgt),
         word(rt, alloc, "test.ping"),
     )
