@@ -5,10 +5,9 @@ ghost use Rattle.salt_wire.specs.Limits.{Within};
 ghost use Rattle.node_core.specs.Node.{IsCounted};
 ghost use Rattle.journalled_node.specs.State.{StandsIfUp};
 
-use crate::made::{FAILED, grown, id, job, job_for, word};
+use crate::made::{FAILED, grown, id, job, word};
 use checkpoint_log::Log;
 use fleet_config::Fleet;
-use gate_journal::{CreateFault, Journal};
 use journal_records::write_record;
 use journalled_node::{JournalledNode, LoadFault, PublishFault, TakeFault};
 use node_core::{PublishRefusal, Stray};
@@ -19,12 +18,6 @@ use std::alloc::Global;
 use std::process::Abort;
 use target_tree::{Kind, TargetFault};
 
-// The target that all minions are.
-const EVERYONE: (Kind, &str) = (Kind::Glob, "*");
-
-// The text of a target whose second leaf has a pattern that is too big.
-const TOO_BIG: &str = "m* or E@(a{1000}){1000}";
-
 /// A call on a node that was just loaded.
 #[derive(Clone, Copy, Debug)]
 enum Call {
@@ -32,12 +25,10 @@ enum Call {
     Load,
     /// An order at the top: `test.ping` for all minions, at this moment.
     Publish(u64),
-    /// The same at moment 7 for a target by its text of this kind.
-    PublishFor(Kind, &'static str),
+    /// An order at the top whose target is no text of a target.
+    PublishNothing,
     /// The job with this number from this node, by the moment of its jid.
     Job(u32, u32, u64),
-    /// The first job from this node, for a target by its text of this kind.
-    JobFor(u32, Kind, &'static str),
     /// The entry with this number of a minion from this node: that it has started.
     Start(u32, &'static str, u32),
 }
@@ -68,11 +59,11 @@ fn start_of(rt: &impl Abort, minion: &str, n: u32) -> Message
     Message::Up { minion, n, entry }
 }
 
-fn job_of(rt: &impl Abort, alloc: Global, seq: u32, moment: u64, aim: (Kind, &str)) -> Message
+fn job_of(rt: &impl Abort, alloc: Global, seq: u32, moment: u64) -> Message
     ensures value { Within result }
     ensures counted { IsCounted result }
 {
-    let job = job_for(rt, alloc, moment, aim.0, aim.1);
+    let job = job(rt, alloc, moment);
     Message::Pub { seq, job }
 }
 
@@ -109,13 +100,13 @@ fn take_job(
     node: &mut JournalledNode,
     disk: &mut MemDisk,
     from: u32,
-    number: (u32, u64),
-    aim: (Kind, &str),
+    seq: u32,
+    moment: u64,
 ) -> Ending
     requires { StandsIfUp ⟦<MemDisk as Disk>⟧ disk.old node.old }
     ensures { StandsIfUp ⟦<MemDisk as Disk>⟧ disk.new node.new }
 {
-    let message = job_of(rt, alloc, number.0, number.1, aim);
+    let message = job_of(rt, alloc, seq, moment);
     replied(&node.take(disk, NodeId::new(from), &message))
 }
 
@@ -125,7 +116,7 @@ fn publish(
     node: &mut JournalledNode,
     disk: &mut MemDisk,
     moment: u64,
-    aim: (Kind, &str),
+    tgt: &str,
 ) -> Ending
     requires { StandsIfUp ⟦<MemDisk as Disk>⟧ disk.old node.old }
     ensures { StandsIfUp ⟦<MemDisk as Disk>⟧ disk.new node.new }
@@ -134,7 +125,7 @@ fn publish(
     if node.node().me().place() != 0 {
         return Ending::Other;
     }
-    match node.publish(disk, moment, aim.0, aim.1, &ping, &[]) {
+    match node.publish(disk, moment, Kind::Glob, tgt, &ping, &[]) {
         Ok(_) => Ending::Published,
         Err(fault) => Ending::Unpublished(fault),
     }
@@ -152,14 +143,9 @@ fn ask(
 {
     match call {
         Call::Load => Ending::Loaded,
-        Call::Publish(moment) => publish(rt, alloc, node, disk, moment, EVERYONE),
-        Call::PublishFor(kind, tgt) => publish(rt, alloc, node, disk, 7, (kind, tgt)),
-        Call::Job(from, seq, moment) => {
-            take_job(rt, alloc, node, disk, from, (seq, moment), EVERYONE)
-        }
-        Call::JobFor(from, kind, tgt) => {
-            take_job(rt, alloc, node, disk, from, (0, 7), (kind, tgt))
-        }
+        Call::Publish(moment) => publish(rt, alloc, node, disk, moment, "*"),
+        Call::PublishNothing => publish(rt, alloc, node, disk, 7, ""),
+        Call::Job(from, seq, moment) => take_job(rt, alloc, node, disk, from, seq, moment),
         Call::Start(from, minion, n) => take_start(rt, node, disk, from, minion, n),
     }
 }
@@ -491,18 +477,14 @@ fn a_node_is_down_after_its_disk_failed(rt: HostRuntime) {
 }
 
 // The top's refusals, after which the next order is published as if they had not been.
-static REFUSED: [(Call, Ending); 4] = [
+static REFUSED: [(Call, Ending); 3] = [
     (
-        Call::PublishFor(Kind::Glob, ""),
+        Call::PublishNothing,
         Ending::Unpublished(PublishFault::Refused {
             cause: PublishRefusal::Target {
                 fault: TargetFault::Empty,
             },
         }),
-    ),
-    (
-        Call::PublishFor(Kind::Compound, TOO_BIG),
-        Ending::Unpublished(PublishFault::TooBig { leaf: 1 }),
     ),
     (
         Call::Job(1, 0, 7),
@@ -513,21 +495,6 @@ static REFUSED: [(Call, Ending); 4] = [
     (Call::Publish(7), Ending::Published),
 ];
 
-// A minion's, after which it runs the next job under the same number.
-static UNTAKEN: [(Call, Ending); 3] = [
-    (
-        Call::JobFor(1, Kind::Compound, TOO_BIG),
-        Ending::Untaken(TakeFault::TooBig { leaf: 1 }),
-    ),
-    (
-        Call::JobFor(1, Kind::Pcre, "("),
-        Ending::Untaken(TakeFault::Stray {
-            cause: Stray::BadPattern { leaf: 0 },
-        }),
-    ),
-    (Call::Job(1, 0, 7), Ending::Jobs(1)),
-];
-
 #[test]
 fn what_is_refused_leaves_no_record(rt: HostRuntime) {
     let alloc = rt.alloc();
@@ -535,9 +502,6 @@ fn what_is_refused_leaves_no_record(rt: HostRuntime) {
     let mut disk = fresh(&rt, alloc, 4096);
     does(&rt, alloc, &fleet, 0, &mut disk, &REFUSED);
     holds(&rt, alloc, &fleet, 0, &mut disk, (1, 0));
-    let mut minion = fresh(&rt, alloc, 4096);
-    does(&rt, alloc, &fleet, 2, &mut minion, &UNTAKEN);
-    holds(&rt, alloc, &fleet, 2, &mut minion, (1, 5));
 }
 
 // A journal of 64 bytes has room for seven starts, of six bytes each behind the first seventeen.
@@ -718,49 +682,4 @@ fn a_disk_without_a_journal(rt: HostRuntime) {
         &mut disk,
         Ending::Unloaded(LoadFault::NotAJournal),
     );
-}
-
-// Adds a payload to the journal on the root of a disk.
-fn add_to_root(rt: &impl Abort, alloc: Global, disk: &mut MemDisk, payload: &[u8]) {
-    match Journal::load(alloc, disk, Part::Root) {
-        Ok((mut journal, _payloads)) => journal.append(alloc, disk, payload).expect(rt, FAILED),
-        Err(_) => panic!(rt; "{FAILED}"),
-    }
-}
-
-#[test]
-fn a_root_with_a_record_is_damaged(rt: HostRuntime) {
-    let alloc = rt.alloc();
-    let fleet = grown(&rt, alloc);
-    let mut disk = fresh(&rt, alloc, 4096);
-    add_to_root(&rt, alloc, &mut disk, b"\x06");
-    let damaged = Ending::Unloaded(LoadFault::Damaged {
-        part: Part::Root,
-        at: 16,
-    });
-    finds(&rt, alloc, &fleet, 2, &mut disk, damaged);
-}
-
-// A crash, and then a create.
-fn create_after(disk: &mut MemDisk) -> Result<(), CreateFault> {
-    match disk.crash(0, 0) {
-        Ok(()) => JournalledNode::create(disk, 4096),
-        Err(_) => Err(CreateFault::NoMemory),
-    }
-}
-
-fn is_created(rt: &impl Abort, disk: &mut MemDisk, wanted: Result<(), CreateFault>) {
-    assert_eq!(rt; create_after(disk), wanted);
-}
-
-// A log without a record is made again; one with a record of one byte has six bytes more than seventeen, and stays.
-#[test]
-fn a_log_with_a_record_is_not_made_again(rt: HostRuntime) {
-    let alloc = rt.alloc();
-    let fleet = grown(&rt, alloc);
-    let mut disk = fresh(&rt, alloc, 4096);
-    is_created(&rt, &mut disk, Ok(()));
-    add(&rt, alloc, &mut disk, b"\x06");
-    is_created(&rt, &mut disk, Err(CreateFault::NotEmpty { length: 23 }));
-    holds(&rt, alloc, &fleet, 2, &mut disk, (0, 2));
 }
