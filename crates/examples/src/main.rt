@@ -3,12 +3,7 @@
 //! `run_example(alloc, &script, &wanted).is_as_wanted` is true where it does.
 #![tactic(auto)]
 
-mod example;
-mod streams;
-#[cfg(test)]
-mod tests;
-
-use example::run_example;
+use salt_commands::run_example;
 use std::{fs, io};
 
 /// The scripts by their names; `NAME.out` has what `NAME.script` writes.

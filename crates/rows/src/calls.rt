@@ -1,6 +1,6 @@
 //! Which function a row calls.
 use crate::spread::{cut, spread};
-use crate::{functions, globs, ids, json, messages, replays, scripts, targets, values};
+use crate::{commands, functions, globs, ids, json, messages, replays, scripts, targets, values};
 use std::alloc::{AllocError, Global};
 use target_tree::Groups;
 
@@ -38,7 +38,10 @@ fn answer_to(
         "pair" => replays::pair(alloc, rest),
         "failing_read" => replays::failing_read(alloc, rest),
         "failing_write" => replays::failing_write(alloc, rest),
-        "command" => replays::command(alloc, rest),
+        "command" => commands::command(alloc, rest),
+        "words" => commands::words(alloc, rest),
+        "unread" => commands::unread(alloc, rest),
+        "example" => commands::example(alloc, rest),
         _ => String::from_str(alloc, "no such call"),
     }
 }

@@ -3,6 +3,7 @@
 #![tactic(auto)]
 
 mod calls;
+mod commands;
 mod digits;
 mod functions;
 mod globs;

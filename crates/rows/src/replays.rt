@@ -1,8 +1,7 @@
 //! Whole runs. `|` stands for a line feed, in scripts and in what they write.
 use crate::spread::cut;
 use salt_outside::{MemSink, MemSource};
-use salt_replay::{run_replay, salt_main};
-use salt_value::Text;
+use salt_replay::run_replay;
 use std::alloc::{AllocError, Global};
 
 /// A top with the minions m1 and m2.
@@ -43,28 +42,15 @@ pub fn failing_write(alloc: Global, rest: &str) -> Result<String, AllocError> {
     )
 }
 
-/// What these words do over an empty schedule.
-pub fn command(alloc: Global, rest: &str) -> Result<String, AllocError> {
-    let mut words = Vec::new(alloc);
-    for word in rest.split(' ') {
-        if !word.is_empty() {
-            words.push(Text::new(String::from_str(alloc, word)?))?;
-        }
-    }
-    let script = pair_of(alloc, "%end|")?;
-    let mut source = MemSource::new(lines_of(alloc, script.as_str())?, Vec::new(alloc));
-    let mut sink = MemSink::new(alloc, Vec::new(alloc));
-    let status = salt_main(alloc, words.as_slice(), &mut source, &mut sink);
-    told(alloc, status.code, sink.bytes())
-}
-
-fn pair_of(alloc: Global, turns: &str) -> Result<String, AllocError> {
+/// The script of a schedule over two minions.
+pub fn pair_of(alloc: Global, turns: &str) -> Result<String, AllocError> {
     let mut script = String::from_str(alloc, PAIR)?;
     script.push_str(turns)?;
     Ok(script)
 }
 
-fn lines_of(alloc: Global, text: &str) -> Result<Vec<u8>, AllocError> {
+/// A text whose lines end with `|`, as bytes.
+pub fn lines_of(alloc: Global, text: &str) -> Result<Vec<u8>, AllocError> {
     let mut bytes = Vec::new(alloc);
     for byte in text.as_bytes() {
         bytes.push(if *byte == b'|' { b'\n' } else { *byte })?;
@@ -80,7 +66,8 @@ fn run(alloc: Global, script: &str, read: u64, write: u64) -> Result<String, All
     told(alloc, status.code, sink.bytes())
 }
 
-fn told(alloc: Global, status: u8, written: &[u8]) -> Result<String, AllocError> {
+/// A status, and what was written, with `|` for line feeds.
+pub fn told(alloc: Global, status: u8, written: &[u8]) -> Result<String, AllocError> {
     let mut text = format!(in alloc; "status {status}: ")?;
     for byte in written {
         text.push(if *byte == b'\n' { '|' } else { *byte as char })?;

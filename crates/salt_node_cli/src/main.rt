@@ -4,11 +4,7 @@
 //! `run_command(alloc, &words, &mut source, &mut sink).code`.
 #![tactic(auto)]
 
-mod command;
-#[cfg(test)]
-mod tests;
-
-use command::{Unread, run_command};
+use salt_commands::{Unread, run_command};
 use salt_outside::{StdSink, StdSource};
 use salt_value::Text;
 use std::process::ExitCode;

@@ -4,7 +4,7 @@ use Rattle.script_text.specs.declared.script.Script.{Script}
 use Rattle.script_text.specs.Script.{Spells, most_script_bytes}
 use Rattle.script_text.specs.Refusals.{IsRefusedAt}
 use Rattle.salt_replay.specs.Replay.{IsReplayStatus, text_of_script, refused_line, full_source_line}
-use Rattle.examples.specs.declared.example.Ending.{Ending}
+use Rattle.salt_commands.specs.declared.example.Ending.{Ending}
 
 -- a status of a replay, but neither 4 nor 5, since neither its source nor its sink can fail
 abbrev pub IsExampleStatus : ℕ → Type 0

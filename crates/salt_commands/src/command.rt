@@ -2,7 +2,7 @@
 ghost use Rattle.std.specs.Prelude.{◌≡◌, Some};
 ghost use Rattle.salt_replay.specs.Replay.{command, IsReplayStatus, IsNoCommand, ReadsScript, CountsReads, WritesScript, TellsLine, CountsWrites};
 ghost use Rattle.salt_replay.specs.Output.{PrintsScripts};
-ghost use Rattle.salt_node_cli.specs.Words.{words_read, HasNoCommand, IdlesUnread};
+ghost use Rattle.salt_commands.specs.Words.{words_read, HasNoCommand, IdlesUnread};
 
 use salt_outside::{Sink, Source};
 use salt_replay::{Status, salt_main};

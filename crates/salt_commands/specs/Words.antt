@@ -2,8 +2,8 @@
 use Rattle.std.specs.Prelude.{◌≡◌, ◌≢◌, ℕ, List, [], Option, None, Some, Result, Ok, Err}
 use Rattle.std.specs.declared.vec.Vec.{Vec}
 use Rattle.salt_replay.specs.Replay.{command}
-use Rattle.salt_node_cli.specs.declared.command.Unread.{Unread}
-use Rattle.salt_node_cli.specs.declared.command.Unread.TheVariants.{NotUtf8, Other}
+use Rattle.salt_commands.specs.declared.command.Unread.{Unread}
+use Rattle.salt_commands.specs.declared.command.Unread.TheVariants.{NotUtf8, Other}
 
 -- The words of a command: those that were read, none of them where one is no UTF-8, since no command has that one, and None where they
 -- could not be read for another cause.

@@ -1,6 +1,6 @@
 //! One example: a script, and what its run must write.
 ghost use Rattle.std.specs.Prelude.{◌≡◌};
-ghost use Rattle.examples.specs.Endings.{IsExampleStatus, TellsText, TellsRefusal, TellsTooLong};
+ghost use Rattle.salt_commands.specs.Endings.{IsExampleStatus, TellsText, TellsRefusal, TellsTooLong};
 
 use crate::streams::{Input, Output};
 use salt_replay::run_replay;
