@@ -1,0 +1,9 @@
+pub mod Words
+pub mod Keys
+pub mod Lists
+pub mod Plain
+pub mod Numbers
+pub mod Quotes
+pub mod Places
+pub mod Spaces
+pub mod Faults
