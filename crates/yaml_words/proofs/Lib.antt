@@ -1,2 +1,6 @@
 mod PlaceLemmas
 mod SpaceLemmas
+mod QuoteLemmas
+mod NumberLemmas
+mod MarkLemmas
+mod ItemLemmas

@@ -75,3 +75,6 @@ met_or_end d b bytes false e ih = rw e ih
 pub place_at_place : (d : Delimiter) (text : List ℕ) → place d (drop (place d text) text) ≡ 0
 place_at_place d [] = refl
 place_at_place d (b ∷ bytes) = met_or_end d b bytes (is_at d (b ∷ bytes)) refl (place_at_place d bytes)
+
+pub place_cut : (d : Delimiter) (text more : List ℕ) (at : ℕ) → at ≡ place d text → more ≡ drop at text → place d more ≡ 0
+place_cut d text more at e f = rw (f, e) (place_at_place d text)

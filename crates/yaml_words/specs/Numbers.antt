@@ -1,5 +1,6 @@
 -- Numbers.
-use Rattle.std.specs.Prelude.{ℕ, ◌==◌, ◌&&◌, ◌||◌, ◌^◌, nat_lt, nat_le, Bool, true, false, List, [], ◌∷◌, bytes_eq, codes, pos, neg_ℤ, is_ascii_digit, if◌then◌else◌}
+use Rattle.std.specs.Prelude.{ℕ, ◌==◌, ◌&&◌, ◌||◌, ◌^◌, nat_lt, nat_le, Bool, true, false, List, [], ◌∷◌, bytes_eq, codes, pos, neg_ℤ, if◌then◌else◌}
+use Rattle.std.specs.Char.{is_ascii_digit}
 use Rattle.std.specs.Str.Parse.{digits_value}
 use Rattle.yaml_words.specs.declared.numbers.Numeral.{Numeral}
 use Rattle.yaml_words.specs.declared.numbers.Numeral.TheVariants.{Whole, Refused, Other}

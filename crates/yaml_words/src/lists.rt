@@ -107,7 +107,7 @@ fn items(alloc: Global, line: u32, text: &str) -> Result<Word, YamlFault>
 {
     let mut items = Items::new(alloc);
     let mut rest = text;
-    loop {
+    'items: loop {
         let found = item(alloc, line, rest)?;
         items.push(found)?;
         let after = after_item(rest);

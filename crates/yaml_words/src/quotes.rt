@@ -95,7 +95,7 @@ pub fn unquoted(alloc: Global, quote: QuoteKind, text: &str) -> Result<Option<Te
 {
     let mut out = String::new(alloc);
     let mut rest = text;
-    loop {
+    'pieces: loop {
         let (front, more) = piece(quote, rest);
         out.push_str(front)?;
         match escape(quote, more) {
@@ -119,7 +119,7 @@ pub fn after_quote(quote: QuoteKind, text: &str) -> &str
     ensures within { length result.now ≤ length text.now }
 {
     let mut rest = text;
-    loop {
+    'pieces: loop {
         let (_front, more) = piece(quote, rest);
         match escape(quote, more) {
             Some((_meant, after)) => rest = after,

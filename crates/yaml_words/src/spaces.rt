@@ -1,5 +1,5 @@
 //! Spaces and comments.
-ghost use Rattle.std.specs.Prelude.{◌≡◌, ◌<◌, true, false, length, drop, slice_index, MatchOption};
+ghost use Rattle.std.specs.Prelude.{◌≡◌, ◌<◌, ◌≤◌, true, false, length, drop, slice_index, MatchOption};
 ghost use Rattle.yaml_words.specs.Places.{begins_with};
 ghost use Rattle.yaml_words.specs.Spaces as spec;
 
@@ -15,7 +15,8 @@ pub fn uncommented(text: &str) -> &str
 
 /// Without the spaces at the front.
 pub fn unindented(text: &str) -> &str
-    ensures { result.now ≡ spec.unindented text.now }
+    ensures value { result.now ≡ spec.unindented text.now }
+    ensures within { length result.now ≤ length text.now }
 {
     let mut left = text;
     while let Some(rest) = left.strip_prefix(' ') {
@@ -37,7 +38,8 @@ pub fn trimmed(text: &str) -> &str
 
 /// What stands after spaces, nothing where that is a comment. A `#` is a comment behind a space alone.
 pub fn after_spaces(text: &str) -> &str
-    ensures { result.now ≡ spec.after_spaces text.now }
+    ensures value { result.now ≡ spec.after_spaces text.now }
+    ensures within { length result.now ≤ length text.now }
 {
     let rest = unindented(text);
     if begins_with(text.as_bytes(), b' ') && begins_with(rest.as_bytes(), b'#') {
