@@ -4,3 +4,4 @@ mod QuoteLemmas
 mod NumberLemmas
 mod MarkLemmas
 mod ItemLemmas
+mod KeyLemmas

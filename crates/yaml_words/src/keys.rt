@@ -41,7 +41,8 @@ fn quoted_key_size(text: &str, rest: &str) -> Option<usize>
 }
 
 fn plain_key_size(text: &str) -> Option<usize>
-    ensures { result ≡ spec.plain_key_size text.now }
+    ensures value { result ≡ spec.plain_key_size text.now }
+    ensures within { IfSome result (λ size. (size < length text.now) × (slice_index text.now size < 128)) }
 {
     let size = place(Delimiter::KeyEnd, text.as_bytes());
     if size < text.len() {

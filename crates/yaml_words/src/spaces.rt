@@ -1,5 +1,5 @@
 //! Spaces and comments.
-ghost use Rattle.std.specs.Prelude.{◌≡◌, ◌<◌, ◌≤◌, true, false, length, drop, slice_index, MatchOption};
+ghost use Rattle.std.specs.Prelude.{◌≡◌, ◌<◌, ◌≤◌, true, false, length, drop, slice_index, MatchOption, IfSome};
 ghost use Rattle.yaml_words.specs.Places.{begins_with};
 ghost use Rattle.yaml_words.specs.Spaces as spec;
 
@@ -61,7 +61,8 @@ pub fn without_first(text: &str) -> &str
 /// What stands after this byte, where the text begins with it.
 pub fn after_byte(text: &str, byte: u8) -> Option<&str>
     requires { byte < 128 }
-    ensures { MatchOption result (begins_with byte text.now ≡ false) (λ rest. (begins_with byte text.now ≡ true) × (rest.now ≡ drop 1 text.now)) }
+    ensures value { MatchOption result (begins_with byte text.now ≡ false) (λ rest. (begins_with byte text.now ≡ true) × (rest.now ≡ drop 1 text.now)) }
+    ensures shorter { IfSome result (λ rest. length rest.now < length text.now) }
 {
     if begins_with(text.as_bytes(), byte) {
         return Some(without_first(text));
