@@ -1,13 +1,13 @@
 -- Where a key ends.
-use Rattle.std.proofs.Common.{◌≡◌, ℕ, zero, suc, ◌+◌, ◌-◌, ◌<◌, ◌≤◌, Bool, true, false, List, [], ◌∷◌, ◌++◌, take, drop, length, get_or, refl, sym, ap, ◌∙◌, arith, length-drop, drop-cons}
+use Rattle.std.proofs.Common.{◌≡◌, ℕ, suc, ◌+◌, ◌-◌, ◌<◌, ◌≤◌, Bool, true, false, List, [], ◌∷◌, take, drop, length, get_or, refl, sym, ap, ◌∙◌, arith, length-drop}
 use Rattle.std.specs.Prelude.{◌==◌, ◌&&◌, Option, None, Some, IfSome, slice_index}
 use Rattle.std.proofs.lemmas.Bool.{eqb-true}
-use Rattle.std.proofs.lemmas.List.{get_or-drop, get_or-take, drop_all, length-take, drop-drop}
+use Rattle.std.proofs.lemmas.List.{get_or-drop, get_or-take, drop_all, length-take}
 use Rattle.yaml_words.specs.declared.places.Delimiter.TheVariants.{KeyEnd, Comment}
 use Rattle.yaml_words.specs.declared.quotes.QuoteKind.{QuoteKind}
-use Rattle.yaml_words.specs.Places.{closing_byte, escape_byte, ends_or, is_at, is_key_end, place, begins_with}
+use Rattle.yaml_words.specs.Places.{closing_byte, escape_byte, ends_or, is_at, place}
 use Rattle.yaml_words.specs.Spaces.{uncommented}
-use Rattle.yaml_words.specs.Quotes.{quoted, with_text, rest_of, after_quote, by_escape, escaped}
+use Rattle.yaml_words.specs.Quotes.{quoted, rest_of, after_quote, by_escape, escaped}
 use Rattle.yaml_words.specs.Keys.{quoted_key_size}
 use Rattle.yaml_words.proofs.QuoteLemmas.{rest_with}
 

@@ -1,8 +1,8 @@
 -- The end of the last `}}` of a text.
-use Rattle.std.proofs.Common.{◌≡◌, ℕ, zero, suc, ◌+◌, ◌<◌, ◌≤◌, Bool, true, false, cond, List, [], ◌∷◌, take, drop, length, get_or, refl, sym, ap, ◌∙◌, arith, drop-cons, length-drop, add-one}
+use Rattle.std.proofs.Common.{◌≡◌, ℕ, suc, ◌+◌, ◌<◌, ◌≤◌, Bool, true, false, cond, List, [], ◌∷◌, drop, length, get_or, refl, ◌∙◌, arith, drop-cons, length-drop, add-one}
 use Rattle.std.specs.Prelude.{nat_lt, ◌==◌, ◌&&◌}
 use Rattle.yaml_words.specs.declared.places.Delimiter.TheVariants.{Close}
-use Rattle.yaml_words.specs.Places.{is_at, begins_with}
+use Rattle.yaml_words.specs.Places.{is_at}
 use Rattle.yaml_words.specs.Plain.{closed_front}
 
 -- the end that is told by what is left, or else this one

@@ -1,5 +1,5 @@
 -- The first place in a text that passes a test.
-use Rattle.std.proofs.Common.{◌≡◌, ℕ, zero, suc, ◌+◌, ◌<◌, ◌≤◌, Bool, true, false, cond, List, [], ◌∷◌, take, drop, length, get_or, slice_index, refl, sym, ap, ◌∙◌, arith, drop-cons, add-one}
+use Rattle.std.proofs.Common.{◌≡◌, ℕ, suc, ◌+◌, ◌<◌, Bool, true, false, List, [], ◌∷◌, drop, length, get_or, refl, ap, ◌∙◌, arith, drop-cons, add-one}
 use Rattle.std.specs.Prelude.{◌==◌, ◌&&◌, ◌||◌}
 use Rattle.yaml_words.specs.declared.places.Delimiter.{Delimiter}
 use Rattle.yaml_words.specs.declared.places.Delimiter.TheVariants.{Comment, KeyEnd, Stray, Open, Close, Return, Feed, ItemEnd, PlainEnd, Special}
@@ -25,7 +25,6 @@ pub place_met : (d : Delimiter) (text : List ℕ) (at : ℕ) → at < length tex
 place_met d text at h e =
     let c = drop-cons text at 0 h in
     ap (place d) c ∙ met d (get_or text at 0) (drop (suc at) text) (rw c at e)
-
 
 and_left : (a b : Bool) → a && b ≡ true → a ≡ true
 and_left true b e = refl

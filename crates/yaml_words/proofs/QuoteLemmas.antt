@@ -1,11 +1,10 @@
 -- Texts in quotes, piece by piece.
-use Rattle.std.proofs.Common.{◌≡◌, ℕ, zero, suc, ◌+◌, ◌<◌, ◌≤◌, Bool, true, false, List, [], ◌∷◌, ◌++◌, take, drop, length, refl, sym, ap, ◌∙◌, arith, append_assoc}
-use Rattle.std.specs.Prelude.{◌==◌, ◌||◌, Option, None, Some, option_map}
+use Rattle.std.proofs.Common.{◌≡◌, ℕ, Bool, true, false, List, [], ◌∷◌, ◌++◌, take, drop, refl, sym, ap, ◌∙◌, append_assoc}
+use Rattle.std.specs.Prelude.{◌==◌, ◌||◌, Option, None, Some}
 use Rattle.yaml_words.specs.declared.quotes.QuoteKind.{QuoteKind}
-use Rattle.yaml_words.specs.declared.quotes.QuoteKind.TheVariants.{Single, Double}
 use Rattle.yaml_words.specs.declared.places.Delimiter.TheVariants.{Special}
-use Rattle.yaml_words.specs.Places.{place, closing_byte, escape_byte, begins_with}
-use Rattle.yaml_words.specs.Quotes.{quoted, with_text, unquoted, after_quote, rest_of, closed}
+use Rattle.yaml_words.specs.Places.{place, closing_byte, escape_byte}
+use Rattle.yaml_words.specs.Quotes.{quoted, with_text, rest_of}
 
 pub with_none : (x : Option (List ℕ × List ℕ)) → with_text [] x ≡ x
 with_none None = refl

@@ -1,11 +1,12 @@
 -- Items and keys at the front of a line.
-use Rattle.std.specs.Prelude.{ℕ, ◌+◌, ◌-◌, ◌==◌, ◌&&◌, ◌||◌, nat_lt, Bool, true, false, List, [], ◌∷◌, length, take, drop, Option, None, Some, Result, Ok, if◌then◌else◌}
+use Rattle.std.specs.Prelude.{ℕ, ◌+◌, ◌-◌, ◌==◌, ◌&&◌, ◌||◌, nat_lt, Bool, false, List, [], ◌∷◌, length, take, drop, Option, None, Some, Result, if◌then◌else◌}
 use Rattle.yaml_words.specs.declared.fault.YamlCause.TheVariants.{Unsupported}
 use Rattle.yaml_words.specs.declared.fault.YamlFault.{YamlFault}
 use Rattle.yaml_words.specs.declared.places.Delimiter.TheVariants.{KeyEnd, Stray, Open}
 use Rattle.yaml_words.specs.declared.quotes.QuoteKind.{QuoteKind}
 use Rattle.yaml_words.specs.declared.quotes.QuoteKind.TheVariants.{Single, Double}
-use Rattle.yaml_words.specs.Faults.{◌>>=◌, refused, unless}
+use Rattle.salt_value.specs.Readers.{◌>>=◌}
+use Rattle.yaml_words.specs.Faults.{refused, unless}
 use Rattle.yaml_words.specs.Places.{begins_with, is_at, place}
 use Rattle.yaml_words.specs.Spaces.{uncommented, after_spaces}
 use Rattle.yaml_words.specs.Quotes.{quoted_text, after_quote}

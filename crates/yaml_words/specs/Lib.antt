@@ -1,4 +1,4 @@
-pub mod Words
+pub mod FlowNodes
 pub mod Keys
 pub mod Lists
 pub mod Plain

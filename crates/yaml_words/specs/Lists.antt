@@ -1,5 +1,5 @@
 -- Lists on one line.
-use Rattle.std.specs.Prelude.{ℕ, zero, suc, ◌+◌, ◌||◌, nat_lt, Bool, List, [], ◌∷◌, ◌++◌, length, take, drop, Option, None, Some, Result, Ok, if◌then◌else◌}
+use Rattle.std.specs.Prelude.{ℕ, zero, suc, ◌||◌, nat_lt, Bool, List, [], ◌∷◌, ◌++◌, length, take, drop, Result, Ok, if◌then◌else◌}
 use Rattle.salt_value.specs.declared.value.Value.{Value}
 use Rattle.salt_value.specs.declared.value.Value.TheVariants as v
 use Rattle.yaml_words.specs.declared.fault.YamlCause.TheVariants.{Quote, TooDeep, Unsupported}
@@ -7,9 +7,10 @@ use Rattle.yaml_words.specs.declared.fault.YamlFault.{YamlFault}
 use Rattle.yaml_words.specs.declared.places.Delimiter.TheVariants.{Open, ItemEnd, PlainEnd}
 use Rattle.yaml_words.specs.declared.quotes.QuoteKind.{QuoteKind}
 use Rattle.yaml_words.specs.declared.quotes.QuoteKind.TheVariants.{Single, Double}
-use Rattle.yaml_words.specs.declared.words.Word.{Word}
-use Rattle.yaml_words.specs.declared.words.Word.TheVariants as w
-use Rattle.yaml_words.specs.Faults.{◌>>=◌, refused, unless}
+use Rattle.yaml_words.specs.declared.flow.FlowNode.{FlowNode}
+use Rattle.yaml_words.specs.declared.flow.FlowNode.TheVariants as w
+use Rattle.salt_value.specs.Readers.{◌>>=◌}
+use Rattle.yaml_words.specs.Faults.{refused, unless}
 use Rattle.yaml_words.specs.Places.{is_empty, begins_with, is_at, place}
 use Rattle.yaml_words.specs.Spaces.{trimmed, after_spaces}
 use Rattle.yaml_words.specs.Quotes.{quoted_text, after_quote}
@@ -23,8 +24,8 @@ closed_text line may_follow text = if may_follow then Ok (v.Str text) else refus
 abbrev pub quoted_value : ℕ → QuoteKind → List ℕ → Bool → Result Value YamlFault
 quoted_value line quote text may_follow =
     quoted_text line quote text
-        >>= (λ t. unless line (text_fault (length t) (length t) (length t)) t)
-        >>= closed_text line may_follow
+    >>= (λ t. unless line (text_fault (length t) (length t) (length t)) t)
+    >>= closed_text line may_follow
 
 -- may an item of a list end before this: a comma, a bracket, the end of the line
 abbrev pub ends_item : List ℕ → Bool
@@ -53,26 +54,26 @@ after_item text =
     else after_spaces (drop (item_size text) text)
 
 -- a list after its closing bracket, which nothing may follow
-abbrev pub closed_list : ℕ → List Value → List ℕ → Result Word YamlFault
+abbrev pub closed_list : ℕ → List Value → List ℕ → Result FlowNode YamlFault
 closed_list line items text = if is_empty (after_spaces text) then Ok (w.List items) else refused line Unsupported
 
 -- what follows an item: the bracket, or a comma and further items
-abbrev pub further : (List Value → List ℕ → Result Word YamlFault) → ℕ → List Value → List ℕ → Result Word YamlFault
+abbrev pub further : (List Value → List ℕ → Result FlowNode YamlFault) → ℕ → List Value → List ℕ → Result FlowNode YamlFault
 further others line before text =
     if begins_with 93 text then closed_list line before (drop 1 text)
     else if begins_with 44 text then others before (after_spaces (drop 1 text))
     else refused line Unsupported
 
 -- at most so many items, after those before them
-unfoldable pub items : ℕ → ℕ → List Value → List ℕ → Result Word YamlFault
+unfoldable pub items : ℕ → ℕ → List Value → List ℕ → Result FlowNode YamlFault
 items zero line before text = refused line Unsupported
 items (suc n) line before text =
     item line text >>= λ value. further (items n line) line (before ++ value ∷ []) (after_item text)
 
 -- A list after its opening bracket and spaces, for whose items there are so many levels. Each item takes a byte.
-abbrev pub list_word : ℕ → ℕ → List ℕ → Result Word YamlFault
-list_word room line text =
+abbrev pub list_node : ℕ → ℕ → List ℕ → Result FlowNode YamlFault
+list_node levels line text =
     if is_empty text then refused line Unsupported
     else if begins_with 93 text then closed_list line [] (drop 1 text)
-    else if nat_lt room 2 then refused line TooDeep
+    else if nat_lt levels 2 then refused line TooDeep
     else items (length text) line [] text

@@ -49,21 +49,21 @@ abbrev pub is_decimal : List ℕ → Bool
 is_decimal text = begins_with_digit text && is_empty (after_exponent (after_fraction (after_digits text)))
 
 -- a number, with its sign, where it is within 64 bits
-abbrev pub within : Bool → ℕ → Numeral
-within true n = if nat_le n (2 ^ 63) then Whole (neg_ℤ (pos n)) else Refused
-within false n = if nat_lt n (2 ^ 63) then Whole (pos n) else Refused
+abbrev pub within_64_bits : Bool → ℕ → Numeral
+within_64_bits true n = if nat_le n (2 ^ 63) then Whole (neg_ℤ (pos n)) else Refused
+within_64_bits false n = if nat_lt n (2 ^ 63) then Whole (pos n) else Refused
 
 -- a sign or none and digits: `0` is a number, and with a sign a text; no other leading zero is taken
-abbrev pub whole : List ℕ → Numeral
-whole text =
+abbrev pub whole_number : List ℕ → Numeral
+whole_number text =
     if bytes_eq text (codes "0") then Whole (pos 0)
     else if bytes_eq (unsigned text) (codes "0") then Other
     else if begins_with 48 (unsigned text) then Refused
-    else within (begins_with 45 text) (digits_value 10 (unsigned text))
+    else within_64_bits (begins_with 45 text) (digits_value 10 (unsigned text))
 
 -- a plain scalar as a number: a whole one, one that is refused, or none
 abbrev pub numeral : List ℕ → Numeral
 numeral text =
-    if is_digits (unsigned text) then whole text
+    if is_digits (unsigned text) then whole_number text
     else if is_decimal (unsigned text) then Refused
     else Other

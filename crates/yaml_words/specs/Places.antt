@@ -1,5 +1,5 @@
 -- Places in a line: what stands there, and where it stands first.
-use Rattle.std.specs.Prelude.{ℕ, zero, suc, ◌==◌, ◌&&◌, ◌||◌, nat_lt, Bool, true, false, List, [], ◌∷◌, length, if◌then◌else◌}
+use Rattle.std.specs.Prelude.{ℕ, suc, ◌==◌, ◌&&◌, ◌||◌, nat_lt, Bool, true, false, List, [], ◌∷◌, length, if◌then◌else◌}
 use Rattle.yaml_words.specs.declared.quotes.QuoteKind.{QuoteKind}
 use Rattle.yaml_words.specs.declared.quotes.QuoteKind.TheVariants.{Single, Double}
 use Rattle.yaml_words.specs.declared.places.Delimiter.{Delimiter}

@@ -10,7 +10,7 @@ use Rattle.yaml_words.specs.declared.numbers.Numeral.{Numeral}
 use Rattle.yaml_words.specs.declared.numbers.Numeral.TheVariants.{Whole, Refused, Other}
 use Rattle.yaml_words.specs.declared.places.Delimiter.{Delimiter}
 use Rattle.yaml_words.specs.declared.places.Delimiter.TheVariants.{Stray, Open, Close, Return}
-use Rattle.yaml_words.specs.Faults.{◌>>=◌, refused, unless}
+use Rattle.yaml_words.specs.Faults.{refused, unless}
 use Rattle.yaml_words.specs.Places.{is_at, place}
 use Rattle.yaml_words.specs.Numbers.{numeral}
 
@@ -62,15 +62,15 @@ true_words = codes "true" ∷ codes "True" ∷ codes "TRUE" ∷ []
 abbrev pub false_words : List (List ℕ)
 false_words = codes "false" ∷ codes "False" ∷ codes "FALSE" ∷ []
 
-abbrev pub is_among : List (List ℕ) → List ℕ → Bool
-is_among words word = list_any (bytes_eq word) words
+abbrev pub is_one_of : List (List ℕ) → List ℕ → Bool
+is_one_of words word = list_any (bytes_eq word) words
 
 -- what a plain scalar that is no number means
-abbrev pub word_value : List ℕ → Value
-word_value text =
-    if is_among null_words text then v.Null
-    else if is_among true_words text then v.Flag true
-    else if is_among false_words text then v.Flag false
+abbrev pub plain_value : List ℕ → Value
+plain_value text =
+    if is_one_of null_words text then v.Null
+    else if is_one_of true_words text then v.Flag true
+    else if is_one_of false_words text then v.Flag false
     else v.Str text
 
 -- the first fault of a plain scalar that is no number
@@ -79,7 +79,7 @@ plain_fault text = text_fault (place (stray text) text) (unclosed text) (length 
 
 -- a plain scalar that is no number
 abbrev pub plain_text : ℕ → List ℕ → Result Value YamlFault
-plain_text line text = unless line (plain_fault text) (word_value text)
+plain_text line text = unless line (plain_fault text) (plain_value text)
 
 -- by the number that it is
 abbrev pub by_numeral : ℕ → List ℕ → Numeral → Result Value YamlFault

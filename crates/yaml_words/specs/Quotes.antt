@@ -1,13 +1,11 @@
 -- Texts in quotes.
-use Rattle.std.specs.Prelude.{ℕ, ◌-◌, ◌==◌, ◌&&◌, Bool, List, [], ◌∷◌, ◌++◌, length, take, drop, Option, None, Some, option_map, Result, Ok, if◌then◌else◌}
-use Rattle.salt_value.specs.declared.value.Value.{Value}
-use Rattle.salt_value.specs.declared.value.Value.TheVariants as v
+use Rattle.std.specs.Prelude.{ℕ, ◌-◌, ◌==◌, List, [], ◌∷◌, ◌++◌, length, take, drop, Option, None, Some, option_map, Result, Ok, if◌then◌else◌}
 use Rattle.yaml_words.specs.declared.fault.YamlCause.TheVariants.{Quote, Unsupported}
 use Rattle.yaml_words.specs.declared.fault.YamlFault.{YamlFault}
 use Rattle.yaml_words.specs.declared.places.Delimiter.TheVariants.{Return}
 use Rattle.yaml_words.specs.declared.quotes.QuoteKind.{QuoteKind}
 use Rattle.yaml_words.specs.declared.quotes.QuoteKind.TheVariants.{Single, Double}
-use Rattle.yaml_words.specs.Faults.{◌>>=◌, refused}
+use Rattle.yaml_words.specs.Faults.{refused}
 use Rattle.yaml_words.specs.Places.{closing_byte, escape_byte, begins_with, has}
 
 -- What an escape stands for, by its second byte: `''` is one quote; `\\`, `\"`, `\n`, `\r`, `\t`.

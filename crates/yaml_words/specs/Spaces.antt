@@ -1,5 +1,5 @@
 -- Spaces and comments.
-use Rattle.std.specs.Prelude.{ℕ, ◌==◌, ◌&&◌, Bool, List, [], ◌∷◌, take, drop, if◌then◌else◌}
+use Rattle.std.specs.Prelude.{ℕ, ◌==◌, ◌&&◌, List, [], ◌∷◌, take, if◌then◌else◌}
 use Rattle.yaml_words.specs.declared.places.Delimiter.TheVariants.{Comment}
 use Rattle.yaml_words.specs.Places.{begins_with, place}
 

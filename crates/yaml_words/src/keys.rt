@@ -1,6 +1,6 @@
 //! Items and keys at the front of a line.
 ghost use Rattle.std.specs.Prelude.{◌≡◌, ◌<◌, ◌+◌, length, take, drop, slice_index, true, MatchOption, IfSome, None, Some};
-ghost use Rattle.yaml_words.specs.Faults.{Gives};
+ghost use Rattle.yaml_words.specs.Faults.{GivesYaml};
 ghost use Rattle.yaml_words.specs.Keys as spec;
 ghost use Rattle.yaml_words.specs.Spaces as spaces;
 
@@ -89,13 +89,8 @@ pub fn split_key(text: &str) -> Option<(&str, &str)>
     }
 }
 
-fn quoted_key(
-    alloc: Global,
-    line: u32,
-    quote: QuoteKind,
-    text: &str,
-) -> Result<Text, YamlFault>
-    ensures { Gives result (spec.quoted_key line quote text.now) }
+fn quoted_key(alloc: Global, line: u32, quote: QuoteKind, text: &str) -> Result<Text, YamlFault>
+    ensures { GivesYaml result (spec.quoted_key line quote text.now) }
 {
     let found = quoted_text(alloc, line, quote, text)?;
     let size = found.as_bytes().len();
@@ -107,7 +102,7 @@ fn quoted_key(
 }
 
 fn plain_key(alloc: Global, line: u32, text: &str) -> Result<Text, YamlFault>
-    ensures { Gives result (spec.plain_key line text.now) }
+    ensures { GivesYaml result (spec.plain_key line text.now) }
 {
     if !may_begin(text) {
         return Err(refused(line, YamlCause::Unsupported));
@@ -122,7 +117,7 @@ fn plain_key(alloc: Global, line: u32, text: &str) -> Result<Text, YamlFault>
 
 /// Reads the text of a key that is written so. A fault is the first one from the left, told with the line's number.
 pub fn read_key(alloc: Global, line: u32, text: &str) -> Result<Text, YamlFault>
-    ensures { Gives result (spec.key line text.now) }
+    ensures { GivesYaml result (spec.key line text.now) }
 {
     if let Some(inner) = after_byte(text, b'\'') {
         return quoted_key(alloc, line, QuoteKind::Single, inner);

@@ -1,14 +1,14 @@
 //! Lists on one line.
 ghost use Rattle.std.specs.Prelude.{◌≡◌, ◌≤◌, [], length, take, drop};
-ghost use Rattle.yaml_words.specs.Faults.{Gives};
+ghost use Rattle.yaml_words.specs.Faults.{GivesYaml};
 ghost use Rattle.yaml_words.specs.Lists as spec;
 
 use crate::fault::{YamlCause, YamlFault, refused};
+use crate::flow::FlowNode;
 use crate::places::{Delimiter, begins_with, is_at, place};
 use crate::plain::{plain, text_fault};
 use crate::quotes::{QuoteKind, after_quote, quoted_text};
 use crate::spaces::{after_byte, after_spaces, trimmed};
-use crate::words::Word;
 use salt_value::{Items, Value};
 use std::alloc::Global;
 
@@ -20,7 +20,7 @@ pub fn quoted_value(
     text: &str,
     may_follow: bool,
 ) -> Result<Value, YamlFault>
-    ensures { Gives result (spec.quoted_value line quote text.now may_follow) }
+    ensures { GivesYaml result (spec.quoted_value line quote text.now may_follow) }
 {
     let found = quoted_text(alloc, line, quote, text)?;
     let size = found.as_bytes().len();
@@ -39,13 +39,8 @@ fn ends_item(text: &str) -> bool
     text.is_empty() || begins_with(text.as_bytes(), b',') || begins_with(text.as_bytes(), b']')
 }
 
-fn quoted_item(
-    alloc: Global,
-    line: u32,
-    quote: QuoteKind,
-    text: &str,
-) -> Result<Value, YamlFault>
-    ensures { Gives result (spec.quoted_item line quote text.now) }
+fn quoted_item(alloc: Global, line: u32, quote: QuoteKind, text: &str) -> Result<Value, YamlFault>
+    ensures { GivesYaml result (spec.quoted_item line quote text.now) }
 {
     let rest = after_spaces(after_quote(quote, text));
     quoted_value(alloc, line, quote, text, ends_item(rest))
@@ -66,7 +61,7 @@ fn cut_item(text: &str) -> (&str, &str)
 
 /// The item that begins a text.
 fn item(alloc: Global, line: u32, text: &str) -> Result<Value, YamlFault>
-    ensures { Gives result (spec.item line text.now) }
+    ensures { GivesYaml result (spec.item line text.now) }
 {
     if let Some(inner) = after_byte(text, b'\'') {
         return quoted_item(alloc, line, QuoteKind::Single, inner);
@@ -93,17 +88,17 @@ fn after_item(text: &str) -> &str
     after_spaces(rest)
 }
 
-fn closed_list(line: u32, items: Items, text: &str) -> Result<Word, YamlFault>
-    ensures { Gives result (spec.closed_list line items text.now) }
+fn closed_list(line: u32, items: Items, text: &str) -> Result<FlowNode, YamlFault>
+    ensures { GivesYaml result (spec.closed_list line items text.now) }
 {
     if !after_spaces(text).is_empty() {
         return Err(refused(line, YamlCause::Unsupported));
     }
-    Ok(Word::List(items))
+    Ok(FlowNode::List(items))
 }
 
-fn items(alloc: Global, line: u32, text: &str) -> Result<Word, YamlFault>
-    ensures { Gives result (spec.items (length text.now) line [] text.now) }
+fn items(alloc: Global, line: u32, text: &str) -> Result<FlowNode, YamlFault>
+    ensures { GivesYaml result (spec.items (length text.now) line [] text.now) }
 {
     let mut items = Items::new(alloc);
     let mut rest = text;
@@ -122,8 +117,8 @@ fn items(alloc: Global, line: u32, text: &str) -> Result<Word, YamlFault>
 }
 
 /// A list after its opening bracket and spaces, for which and whose items there are so many levels.
-pub fn list_word(alloc: Global, room: usize, line: u32, text: &str) -> Result<Word, YamlFault>
-    ensures { Gives result (spec.list_word room line text.now) }
+pub fn list_node(alloc: Global, levels: usize, line: u32, text: &str) -> Result<FlowNode, YamlFault>
+    ensures { GivesYaml result (spec.list_node levels line text.now) }
 {
     if text.is_empty() {
         return Err(refused(line, YamlCause::Unsupported));
@@ -131,7 +126,7 @@ pub fn list_word(alloc: Global, room: usize, line: u32, text: &str) -> Result<Wo
     if let Some(tail) = after_byte(text, b']') {
         return closed_list(line, Items::new(alloc), tail);
     }
-    if room < 2 {
+    if levels < 2 {
         return Err(refused(line, YamlCause::TooDeep));
     }
     items(alloc, line, text)

@@ -98,9 +98,9 @@ fn is_decimal(text: &[u8]) -> bool
 }
 
 /// A number of 64 bits with its sign.
-fn within(text: &str) -> Numeral
+fn within_64_bits(text: &str) -> Numeral
     requires { spec.is_digits (spec.unsigned text.now) ≡ true }
-    ensures { result ≡ spec.within (begins_with 45 text.now) (digits_value 10 (spec.unsigned text.now)) }
+    ensures { result ≡ spec.within_64_bits (begins_with 45 text.now) (digits_value 10 (spec.unsigned text.now)) }
 {
     match text.parse::<i64>() {
         Ok(number) => Numeral::Whole(number),
@@ -109,9 +109,9 @@ fn within(text: &str) -> Numeral
 }
 
 /// A sign or none and digits.
-fn whole(text: &str) -> Numeral
+fn whole_number(text: &str) -> Numeral
     requires { spec.is_digits (spec.unsigned text.now) ≡ true }
-    ensures { result ≡ spec.whole text.now }
+    ensures { result ≡ spec.whole_number text.now }
 {
     if text == "0" {
         return Numeral::Whole(0);
@@ -123,7 +123,7 @@ fn whole(text: &str) -> Numeral
     if begins_with(digits, b'0') {
         return Numeral::Refused;
     }
-    within(text)
+    within_64_bits(text)
 }
 
 /// The number that a plain scalar is.
@@ -132,7 +132,7 @@ pub fn read_number(text: &str) -> Numeral
 {
     let digits = unsigned(text.as_bytes());
     if is_digits(digits) {
-        return whole(text);
+        return whole_number(text);
     }
     if is_decimal(digits) {
         return Numeral::Refused;

@@ -84,7 +84,8 @@ pub fn is_at(delimiter: Delimiter, text: &[u8]) -> bool
             Delimiter::Feed => *first == b'\n',
             Delimiter::ItemEnd => is_item_end(*first),
             Delimiter::PlainEnd => is_item_end(*first) || is_comment(*first, rest),
-            Delimiter::Special(quote) => *first == quote.closing_byte() || *first == quote.escape_byte(),
+            Delimiter::Special(quote) => *first == quote.closing_byte()
+                || *first == quote.escape_byte(),
         },
     }
 }

@@ -1,7 +1,7 @@
 //! Plain scalars.
 ghost use Rattle.std.specs.Prelude.{◌≡◌, ◌≤◌, ◌==◌, length, IfOk};
 ghost use Rattle.std.specs.List.{list_any};
-ghost use Rattle.yaml_words.specs.Faults.{Gives};
+ghost use Rattle.yaml_words.specs.Faults.{GivesYaml};
 ghost use Rattle.yaml_words.specs.Plain as spec;
 
 use crate::fault::{YamlCause, YamlFault, refused};
@@ -99,8 +99,8 @@ pub fn to_text(alloc: Global, text: &str) -> Result<Text, AllocError>
 }
 
 /// What a plain scalar that is no number means.
-fn word_value(alloc: Global, text: &str) -> Result<Value, AllocError>
-    ensures { IfOk result (λ value. value ≡ spec.word_value text.now) }
+fn plain_value(alloc: Global, text: &str) -> Result<Value, AllocError>
+    ensures { IfOk result (λ value. value ≡ spec.plain_value text.now) }
 {
     if text == "null" || text == "~" {
         Ok(Value::Null)
@@ -122,17 +122,17 @@ fn plain_fault(text: &[u8]) -> Option<YamlCause>
 
 /// A plain scalar that is no number.
 fn plain_text(alloc: Global, line: u32, text: &str) -> Result<Value, YamlFault>
-    ensures { Gives result (spec.plain_text line text.now) }
+    ensures { GivesYaml result (spec.plain_text line text.now) }
 {
     if let Some(cause) = plain_fault(text.as_bytes()) {
         return Err(refused(line, cause));
     }
-    Ok(word_value(alloc, text)?)
+    Ok(plain_value(alloc, text)?)
 }
 
 /// A plain scalar.
 pub fn plain(alloc: Global, line: u32, text: &str) -> Result<Value, YamlFault>
-    ensures { Gives result (spec.plain line text.now) }
+    ensures { GivesYaml result (spec.plain line text.now) }
 {
     if !may_begin(text) {
         return Err(refused(line, YamlCause::Unsupported));

@@ -1,6 +1,6 @@
 //! Texts in quotes.
 ghost use Rattle.std.specs.Prelude.{◌≡◌, ◌<◌, ◌≤◌, ◌∷◌, [], length, MatchOption, IfSome, IfOk};
-ghost use Rattle.yaml_words.specs.Faults.{Gives};
+ghost use Rattle.yaml_words.specs.Faults.{GivesYaml};
 ghost use Rattle.yaml_words.specs.Places as bytes;
 ghost use Rattle.yaml_words.specs.Quotes as spec;
 
@@ -140,7 +140,7 @@ pub fn quoted_text(
     quote: QuoteKind,
     text: &str,
 ) -> Result<Text, YamlFault>
-    ensures { Gives result (spec.quoted_text line quote text.now) }
+    ensures { GivesYaml result (spec.quoted_text line quote text.now) }
 {
     let Some(found) = unquoted(alloc, quote, text)? else {
         return Err(refused(line, YamlCause::Quote));

@@ -1,4 +1,4 @@
-use Rattle.std.proofs.Common.{◌≡◌, ◌∙◌, true, false, sym, drop}
+use Rattle.std.proofs.Common.{◌≡◌, ◌∙◌, true, sym, drop}
 use Rattle.std.proofs.lemmas.List.{take_rest}
 use Rattle.yaml_words.specs.Numbers.{begins_with_digit}
 use Rattle.yaml_words.proofs.NumberLemmas.{digit_passes}

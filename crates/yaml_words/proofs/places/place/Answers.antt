@@ -1,6 +1,6 @@
-use Rattle.std.proofs.Common.{◌+◌, ◌≡◌, ◌∙◌, true, false, ap, sym, arith, drop, get_or, ◌<◌}
+use Rattle.std.proofs.Common.{◌≡◌, ◌∙◌, true, false, sym, arith, drop, get_or, ◌<◌}
 use Rattle.std.proofs.lemmas.List.{take_rest}
-use Rattle.yaml_words.specs.Places.{place, is_at}
+use Rattle.yaml_words.specs.Places.{is_at}
 use Rattle.yaml_words.proofs.PlaceLemmas.{place_passes, place_met, ascii_here}
 use Rattle.yaml_words.proofs.places.place.Goals as goal
 

@@ -1,4 +1,4 @@
-use Rattle.std.proofs.Common.{◌∙◌, ap, sym}
+use Rattle.std.proofs.Common.{◌∙◌, ap}
 use Rattle.yaml_words.specs.declared.places.Delimiter.TheVariants.{Special}
 use Rattle.yaml_words.specs.Places.{place}
 use Rattle.yaml_words.proofs.PlaceLemmas.{place_cut}

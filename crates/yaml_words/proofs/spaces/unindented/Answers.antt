@@ -1,4 +1,4 @@
-use Rattle.std.proofs.Common.{◌∙◌, lit<, sym, rules}
+use Rattle.std.proofs.Common.{◌∙◌, lit<, sym}
 use Rattle.std.proofs.lemmas.Str.Pattern.{strip_prefix_char}
 use Rattle.yaml_words.proofs.SpaceLemmas.{unindented-same}
 use Rattle.yaml_words.proofs.spaces.unindented.Goals as goal

@@ -1,10 +1,10 @@
 //! What stands behind a key or an item's mark.
 ghost use Rattle.std.specs.Prelude.{◌≡◌};
-ghost use Rattle.yaml_words.specs.Faults.{Gives};
-ghost use Rattle.yaml_words.specs.Words as spec;
+ghost use Rattle.yaml_words.specs.Faults.{GivesYaml};
+ghost use Rattle.yaml_words.specs.FlowNodes as spec;
 
 use crate::fault::{YamlCause, YamlFault, refused};
-use crate::lists::{list_word, quoted_value};
+use crate::lists::{list_node, quoted_value};
 use crate::places::{Delimiter, is_at};
 use crate::plain::plain;
 use crate::quotes::{QuoteKind, after_quote};
@@ -14,7 +14,7 @@ use std::alloc::Global;
 
 /// What a text on one line is.
 #[derive(Drop)]
-pub enum Word {
+pub enum FlowNode {
     /// Null, a flag, a whole number or a text.
     Scalar(Value),
     /// `[A, B]`, whose items are scalars, or `[]`.
@@ -23,17 +23,17 @@ pub enum Word {
     EmptyMap,
 }
 
-fn quoted_word(
+fn quoted_node(
     alloc: Global,
     line: u32,
     quote: QuoteKind,
     text: &str,
-) -> Result<Word, YamlFault>
-    ensures { Gives result (spec.quoted_word line quote text.now) }
+) -> Result<FlowNode, YamlFault>
+    ensures { GivesYaml result (spec.quoted_node line quote text.now) }
 {
     let rest = after_spaces(after_quote(quote, text));
     let value = quoted_value(alloc, line, quote, text, rest.is_empty())?;
-    Ok(Word::Scalar(value))
+    Ok(FlowNode::Scalar(value))
 }
 
 /// A plain scalar's text, with neither a comment nor the spaces at its end.
@@ -46,15 +46,15 @@ fn plain_part(text: &str) -> &str
     trimmed(uncommented(text))
 }
 
-fn plain_word(alloc: Global, line: u32, text: &str) -> Result<Word, YamlFault>
-    ensures { Gives result (spec.plain_word line text.now) }
+fn plain_node(alloc: Global, line: u32, text: &str) -> Result<FlowNode, YamlFault>
+    ensures { GivesYaml result (spec.plain_node line text.now) }
 {
     let value = plain(alloc, line, plain_part(text))?;
-    Ok(Word::Scalar(value))
+    Ok(FlowNode::Scalar(value))
 }
 
-fn map_word(line: u32, text: &str) -> Result<Word, YamlFault>
-    ensures { Gives result (spec.map_word line text.now) }
+fn map_node(line: u32, text: &str) -> Result<FlowNode, YamlFault>
+    ensures { GivesYaml result (spec.map_node line text.now) }
 {
     let Some(tail) = after_byte(text, b'}') else {
         return Err(refused(line, YamlCause::Unsupported));
@@ -62,28 +62,33 @@ fn map_word(line: u32, text: &str) -> Result<Word, YamlFault>
     if !after_spaces(tail).is_empty() {
         return Err(refused(line, YamlCause::Unsupported));
     }
-    Ok(Word::EmptyMap)
+    Ok(FlowNode::EmptyMap)
 }
 
-/// Reads what a text on one line is, with the comment after it, where there are `room` levels for it and what is in it. A text is what stands
+/// Reads what a text on one line is, with the comment after it, where there are `levels` levels for it and what is in it. A text is what stands
 /// behind a key or `-` and spaces; an empty one is `Unsupported`. A fault is the first one from the left, told with the line's number.
-pub fn read_word(alloc: Global, room: usize, line: u32, text: &str) -> Result<Word, YamlFault>
-    ensures { Gives result (spec.word room line text.now) }
+pub fn read_flow_node(
+    alloc: Global,
+    levels: usize,
+    line: u32,
+    text: &str,
+) -> Result<FlowNode, YamlFault>
+    ensures { GivesYaml result (spec.flow_node levels line text.now) }
 {
     if let Some(inner) = after_byte(text, b'\'') {
-        return quoted_word(alloc, line, QuoteKind::Single, inner);
+        return quoted_node(alloc, line, QuoteKind::Single, inner);
     }
     if let Some(inner) = after_byte(text, b'"') {
-        return quoted_word(alloc, line, QuoteKind::Double, inner);
+        return quoted_node(alloc, line, QuoteKind::Double, inner);
     }
     if let Some(inner) = after_byte(text, b'[') {
-        return list_word(alloc, room, line, after_spaces(inner));
+        return list_node(alloc, levels, line, after_spaces(inner));
     }
     if is_at(Delimiter::Open, text.as_bytes()) {
-        return plain_word(alloc, line, text);
+        return plain_node(alloc, line, text);
     }
     if let Some(inner) = after_byte(text, b'{') {
-        return map_word(line, after_spaces(inner));
+        return map_node(line, after_spaces(inner));
     }
-    plain_word(alloc, line, text)
+    plain_node(alloc, line, text)
 }
