@@ -1,0 +1,3 @@
+mod Cuts
+mod Levels
+mod Feeds

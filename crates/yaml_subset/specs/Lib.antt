@@ -1,0 +1,4 @@
+pub mod Document
+pub mod Blocks
+pub mod Rows
+pub mod Keys
