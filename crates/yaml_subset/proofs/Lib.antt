@@ -1,3 +1,4 @@
 mod Cuts
 mod Levels
 mod Feeds
+mod KeyLemmas
