@@ -2,3 +2,4 @@ mod Cuts
 mod Levels
 mod Feeds
 mod KeyLemmas
+mod PairLemmas

@@ -113,9 +113,9 @@ pair_under levels deeper twice e key =
 abbrev pub keys_of : List YamlPair → List (List ℕ)
 keys_of pairs = map (λ (p : YamlPair). p.key) pairs
 
--- A pair of a map at this column, after those before it.
-abbrev pub pair_of : ℕ → Reader → ℕ → List YamlPair → Entry → Result YamlPair YamlFault
-pair_of levels deeper column before e = key_of column e.head >>= λ key. pair_under levels deeper (has_key (keys_of before) key) e key
+-- A pair of a map at this column, which has these keys before it.
+abbrev pub pair_of : ℕ → Reader → ℕ → List (List ℕ) → Entry → Result YamlPair YamlFault
+pair_of levels deeper column keys e = key_of column e.head >>= λ key. pair_under levels deeper (has_key keys key) e key
 
 -- the items of a list, after those before them
 abbrev pub items_of : ℕ → Reader → ℕ → List Yaml → List Entry → Result (List Yaml) YamlFault
@@ -127,19 +127,19 @@ items_of levels deeper column before (e ∷ es) =
 abbrev pub pairs_of : ℕ → Reader → ℕ → List YamlPair → List Entry → Result (List YamlPair) YamlFault
 pairs_of levels deeper column before [] = Ok before
 pairs_of levels deeper column before (e ∷ es) =
-    pair_of levels deeper column before e >>= λ pair. pairs_of levels deeper column (before ++ pair ∷ []) es
+    pair_of levels deeper column (keys_of before) e >>= λ pair. pairs_of levels deeper column (before ++ pair ∷ []) es
 
 -- the list that begins with this line
 abbrev pub list_of : ℕ → Reader → Reader
 list_of levels deeper first rest =
     items_of levels deeper (column_of first) [] (entries (begins_item (column_of first)) first rest)
-        >>= λ items. Ok (record { line = first.number; node = ListNode items })
+    >>= λ items. Ok (record { line = first.number; node = ListNode items })
 
 -- the map that begins with this line
 abbrev pub map_of : ℕ → Reader → Reader
 map_of levels deeper first rest =
     pairs_of levels deeper (column_of first) [] (entries (begins_pair (column_of first)) first rest)
-        >>= λ pairs. Ok (record { line = first.number; node = MapNode pairs })
+    >>= λ pairs. Ok (record { line = first.number; node = MapNode pairs })
 
 -- a list or a map, by the first line, whose members may have so many levels
 abbrev pub block_of : ℕ → Reader → Reader

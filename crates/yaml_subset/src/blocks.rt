@@ -1,5 +1,5 @@
 //! Blocks of lines.
-ghost use Rattle.std.specs.Prelude.{◌≡◌, [], map, None, IfOk};
+ghost use Rattle.std.specs.Prelude.{◌≡◌, [], ◌∷◌, ◌++◌, map, None, IfOk};
 ghost use Rattle.yaml_words.specs.Faults.{GivesYaml, FailsYaml};
 ghost use Rattle.yaml_words.specs.Keys as words;
 ghost use Rattle.yaml_subset.specs.Rows.{row, rows, column_of};
@@ -13,7 +13,8 @@ use salt_value::{Text, Value};
 use sqlite_items::Items;
 use std::alloc::{AllocError, Global};
 use yaml_words::{
-    FlowNode, YamlCause, YamlFault, after_mark, is_item, read_flow_node, read_key, refused, split_key,
+    FlowNode, YamlCause, YamlFault, after_mark, is_item, read_flow_node, read_key, refused,
+    split_key,
 };
 
 /// The levels of the deepest tree (this project's own).
@@ -265,6 +266,24 @@ fn pair_under<'s, 'a>(
     })
 }
 
+/// A pair of a map at this column, which has these keys before it. Its key is added to them.
+#[cycle(blocks)]
+fn pair<'s, 'a>(
+    alloc: Global,
+    levels: usize,
+    column: usize,
+    keys: &mut KeySet,
+    head: Line<'a>,
+    own: &'s [Line<'a>],
+) -> Result<YamlPair, YamlFault>
+    ensures ok { GivesYaml result (spec.pair_of levels (spec.block levels) column keys.old (record { head = row head.entry; own = rows own.entry.now })) }
+    ensures keys { IfOk result (λ pair. keys.new ≡ keys.old ++ pair.key ∷ []) }
+{
+    let key = key_of(alloc, column, &head)?;
+    let twice = !keys.insert(alloc, &key)?;
+    pair_under(alloc, levels, twice, head, own, key)
+}
+
 /// The pairs of a map that begins with this line.
 #[cycle(blocks)]
 fn pairs<'s, 'a>(
@@ -280,9 +299,7 @@ fn pairs<'s, 'a>(
     let mut keys = KeySet::new(alloc);
     let mut pairs = Items::new(alloc);
     for entry in &entries {
-        let key = key_of(alloc, column, &entry.head)?;
-        let twice = !keys.insert(alloc, &key)?;
-        let pair = pair_under(alloc, levels, twice, entry.head, entry.own, key)?;
+        let pair = pair(alloc, levels, column, &mut keys, entry.head, entry.own)?;
         pairs.push(pair)?;
     }
     Ok(pairs)

@@ -27,6 +27,9 @@ decreases-pair_value l = 8 * l.levels + 2
 abbrev pub decreases-pair_under : goal.decreases-pair_under
 decreases-pair_under l = 8 * l.levels + 3
 
+abbrev pub decreases-pair : goal.decreases-pair
+decreases-pair l = 8 * l.levels + 4
+
 abbrev pub decreases-pairs : goal.decreases-pairs
 decreases-pairs l = 8 * l.levels + 6
 
