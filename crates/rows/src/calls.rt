@@ -1,6 +1,6 @@
 //! Which function a row calls.
 use crate::spread::{cut, spread};
-use crate::{commands, functions, globs, ids, json, messages, replays, scripts, targets, values};
+use crate::{commands, functions, globs, ids, json, messages, replays, scripts, targets, values, yaml};
 use std::alloc::{AllocError, Global};
 use target_tree::Groups;
 
@@ -42,6 +42,7 @@ fn answer_to(
         "words" => commands::words(alloc, rest),
         "unread" => commands::unread(alloc, rest),
         "example" => commands::example(alloc, rest),
+        "yaml" => yaml::yaml(alloc, rest),
         _ => String::from_str(alloc, "no such call"),
     }
 }

@@ -1,11 +1,10 @@
 -- Where an entry's own lines end.
-use Rattle.std.proofs.Common.{◌≡◌, ℕ, zero, suc, ◌+◌, ◌<◌, ◌≤◌, Bool, true, false, not, cond, List, [], ◌∷◌, ◌++◌, take, drop, length, refl, sym, ap, ◌∙◌, arith}
+use Rattle.std.proofs.Common.{◌≡◌, ℕ, suc, ◌+◌, ◌≤◌, Bool, true, false, not, cond, List, [], ◌∷◌, take, drop, length, refl, arith}
 use Rattle.std.specs.Prelude.{None, Some, position, nat_lt}
 use Rattle.std.specs.List.{position_or_len}
 use Rattle.std.proofs.lemmas.List.Sums.{prefix_len-le-length}
-use Rattle.std.proofs.Math.Seq.{take-length, drop-length}
 use Rattle.yaml_subset.specs.declared.rows.Line.{Line}
-use Rattle.yaml_subset.specs.Rows.{Row, Entry, row, rows, entries, further, onto_own}
+use Rattle.yaml_subset.specs.Rows.{Row, row, rows, entries, further}
 
 some_place : (n m at : ℕ) → cond (nat_lt n m) (Some n) None ≡ Some at → n ≡ at
 some_place n m at e = grind arith

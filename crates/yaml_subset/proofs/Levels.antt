@@ -1,5 +1,5 @@
 -- A block by its levels.
-use Rattle.std.proofs.Common.{◌≡◌, ℕ, zero, suc, ◌<◌, ◌-◌, List, refl, ap, sym, arith}
+use Rattle.std.proofs.Common.{◌≡◌, ℕ, zero, suc, ◌<◌, ◌-◌, List, refl, arith}
 use Rattle.yaml_subset.specs.Rows.{Row}
 use Rattle.yaml_subset.specs.Blocks.{block, block_of}
 use Rattle.yaml_words.specs.Faults.{refused}

@@ -3,3 +3,4 @@ mod Levels
 mod Feeds
 mod KeyLemmas
 mod PairLemmas
+mod LineCounts

@@ -1,5 +1,5 @@
 -- The key that a pair adds to those before it.
-use Rattle.std.proofs.Common.{◌≡◌, ℕ, zero, suc, Bool, true, false, not, cond, List, [], ◌∷◌, ◌++◌, refl, sym, ap, ◌∙◌}
+use Rattle.std.proofs.Common.{◌≡◌, ℕ, Bool, true, false, not, cond, List, [], ◌∷◌, ◌++◌, refl, sym, ap, ◌∙◌}
 use Rattle.std.specs.Prelude.{Result, Ok, Err, IfOk, ◌==◌}
 use Rattle.salt_value.specs.Readers.{◌>>=◌}
 use Rattle.yaml_words.specs.declared.fault.YamlFault.{YamlFault}
@@ -9,7 +9,7 @@ use Rattle.yaml_words.specs.Faults.{GivesYaml, refused}
 use Rattle.yaml_subset.specs.declared.tree.Yaml.{Yaml}
 use Rattle.yaml_subset.specs.declared.tree.YamlPair.{YamlPair}
 use Rattle.yaml_subset.specs.Keys.{has_key, with_key}
-use Rattle.yaml_subset.specs.Rows.{Row, Entry}
+use Rattle.yaml_subset.specs.Rows.{Entry}
 use Rattle.yaml_subset.specs.Blocks.{Reader, pair_under, pair_value, after_key}
 
 abbrev made : ℕ → List ℕ → Yaml → YamlPair

@@ -1,5 +1,5 @@
 -- The tree of some lines, or the first line that has a fault, with its first fault: by recursion over the entries of each block.
-use Rattle.std.specs.Prelude.{ℕ, zero, suc, ◌+◌, ◌-◌, ◌==◌, ◌&&◌, not, Bool, true, false, List, [], ◌∷◌, ◌++◌, length, map, Option, None, Some, Result, Ok, Err, if◌then◌else◌}
+use Rattle.std.specs.Prelude.{ℕ, zero, suc, ◌==◌, ◌&&◌, not, Bool, List, [], ◌∷◌, ◌++◌, map, Option, None, Some, Result, Ok, if◌then◌else◌}
 use Rattle.salt_value.specs.declared.value.Value.{Value}
 use Rattle.salt_value.specs.declared.value.Value.TheVariants as v
 use Rattle.salt_value.specs.Readers.{◌>>=◌}

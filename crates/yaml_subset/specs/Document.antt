@@ -1,5 +1,5 @@
 -- A whole text: its lines, and the tree that they are.
-use Rattle.std.specs.Prelude.{ℕ, ◌+◌, ◌==◌, ◌&&◌, Bool, true, false, List, [], ◌∷◌, ◌++◌, length, take, drop, bytes_eq, codes, Option, None, Some, Result, Ok, Err, if◌then◌else◌}
+use Rattle.std.specs.Prelude.{ℕ, ◌+◌, ◌==◌, List, [], ◌∷◌, length, Option, None, Some, Result, Ok, if◌then◌else◌}
 use Rattle.std.specs.List.{onto_first}
 use Rattle.salt_value.specs.declared.value.Value.TheVariants as v
 use Rattle.salt_value.specs.Readers.{◌>>=◌}
@@ -10,7 +10,6 @@ use Rattle.yaml_words.specs.Places.{begins_with, ends_or}
 use Rattle.yaml_words.specs.Spaces.{unindented}
 use Rattle.yaml_words.specs.Keys.{is_item, split_key}
 use Rattle.yaml_subset.specs.declared.tree.Yaml.{Yaml}
-use Rattle.yaml_subset.specs.declared.tree.YamlNode.TheVariants.{Scalar}
 use Rattle.yaml_subset.specs.Rows.{Row, is_start}
 use Rattle.yaml_subset.specs.Blocks.{block, value_here, is_later_start, most_levels, scalar_at}
 

@@ -4,11 +4,13 @@
 
 mod blocks;
 mod keys;
+mod laws;
 mod lines;
 mod read;
 mod rows;
 mod tree;
 
+pub use laws::lines_are_numbered;
 pub use read::read_yaml;
 pub use tree::{Yaml, YamlItems, YamlNode, YamlPair, YamlPairs};
 pub use yaml_words::{YamlCause, YamlFault};

@@ -1,4 +1,4 @@
-use Rattle.std.proofs.Common.{◌≡◌, ◌∙◌, ap, sym, arith, length}
+use Rattle.std.proofs.Common.{◌≡◌, ◌∙◌, ap, sym, length}
 use Rattle.std.proofs.lemmas.Bool.{eqb-true}
 use Rattle.yaml_words.specs.declared.places.Delimiter.TheVariants.{Feed}
 use Rattle.yaml_words.specs.Places.{place}

@@ -1,5 +1,4 @@
 use Rattle.std.proofs.Common.{◌∙◌, sym}
-use Rattle.std.proofs.Math.Seq.{take-length, drop-length}
 use Rattle.yaml_subset.specs.Rows.{begins}
 use Rattle.yaml_subset.proofs.Cuts.{cut_some, cut_none}
 use Rattle.yaml_subset.proofs.rows.own_lines.Goals as goal
