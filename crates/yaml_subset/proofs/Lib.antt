@@ -4,3 +4,4 @@ mod Feeds
 mod KeyLemmas
 mod PairLemmas
 mod LineCounts
+mod OneRowMore

@@ -58,6 +58,10 @@ numbered first tree = Ok (record { line = first; node = tree.node })
 abbrev pub tree_of : ℕ → List Row × Option ℕ → Result Yaml YamlFault
 tree_of first found = (document first found.0 >>= untabbed found.1) >>= numbered first
 
+-- the tree that some lines are, or their first fault
+abbrev pub lines_tree : ℕ → List (List ℕ) → Result Yaml YamlFault
+lines_tree first lines = tree_of first (all_lines first lines)
+
 -- the tree that a text is, or its first fault
 abbrev pub reading : ℕ → List ℕ → Result Yaml YamlFault
-reading first text = tree_of first (all_lines first (lines_of text))
+reading first text = lines_tree first (lines_of text)

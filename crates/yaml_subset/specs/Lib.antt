@@ -1,4 +1,5 @@
 pub mod Document
+pub mod Laws
 pub mod Blocks
 pub mod Rows
 pub mod Keys

@@ -10,7 +10,7 @@ mod read;
 mod rows;
 mod tree;
 
-pub use laws::lines_are_numbered;
+pub use laws::{faults_break_at_their_line, lines_are_numbered};
 pub use read::read_yaml;
 pub use tree::{Yaml, YamlItems, YamlNode, YamlPair, YamlPairs};
 pub use yaml_words::{YamlCause, YamlFault};

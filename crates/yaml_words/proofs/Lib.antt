@@ -5,3 +5,4 @@ mod NumberLemmas
 mod MarkLemmas
 mod ItemLemmas
 mod KeyLemmas
+pub mod FaultLines

@@ -22,3 +22,7 @@ refused line cause = Err (Line line cause)
 abbrev pub unless : {A : Type 0} → ℕ → Option YamlCause → A → Result A YamlFault
 unless line None x = Ok x
 unless line (Some cause) x = refused line cause
+
+-- whatever fault there is, it is told with this number of a line
+pub record IsOnLine {A : Type 0} (line : ℕ) (read : Result A YamlFault) : Type 0 where
+  pub told : (n : ℕ) (cause : YamlCause) → read ≡ Err (Line n cause) → n ≡ line

@@ -5,6 +5,7 @@
 mod fault;
 mod flow;
 mod keys;
+mod laws;
 mod lists;
 mod numbers;
 mod places;
@@ -15,6 +16,7 @@ mod spaces;
 pub use fault::{YamlCause, YamlFault, refused};
 pub use flow::{FlowNode, read_flow_node};
 pub use keys::{after_mark, is_item, read_key, split_key};
+pub use laws::faults_have_their_line;
 pub use places::{Delimiter, begins_with, ends_or, place};
 pub use plain::MOST_SCALAR_BYTES;
 pub use quotes::QuoteKind;

@@ -1,0 +1,16 @@
+-- What a fault says of the lines of a text.
+use Rattle.std.specs.Prelude.{◌≡◌, ℕ, ◌+◌, List, [], ◌∷◌, ◌++◌, length, Result, Ok, Err, IsOk}
+use Rattle.yaml_words.specs.declared.fault.YamlCause.{YamlCause}
+use Rattle.yaml_words.specs.declared.fault.YamlFault.{YamlFault}
+use Rattle.yaml_words.specs.declared.fault.YamlFault.TheVariants.{Line}
+use Rattle.yaml_subset.specs.Document.{lines_tree}
+
+-- One of the lines brings this fault: it has this number, the lines before it are read, and with it they have the fault, whatever lines follow.
+pub record BreaksAt (first : ℕ) (lines : List (List ℕ)) (n : ℕ) (cause : YamlCause) : Type 0 where
+  pub before : List (List ℕ)
+  pub line : List ℕ
+  pub after : List (List ℕ)
+  pub parts : lines ≡ before ++ line ∷ after
+  pub number : n ≡ first + length before
+  pub read : IsOk (lines_tree first before)
+  pub broken : (more : List (List ℕ)) → lines_tree first (before ++ line ∷ more) ≡ Err (Line n cause)
