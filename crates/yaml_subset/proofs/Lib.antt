@@ -5,3 +5,4 @@ mod KeyLemmas
 mod PairLemmas
 mod LineCounts
 mod OneRowMore
+mod OneLineMore

@@ -98,14 +98,14 @@ pub record IsByLines (deeper : Reader) : Type 0 where
   pub step : (first : Row) (rest : List Row) (r : Row) → IsStep r.number (deeper first rest) (deeper first (rest ++ r ∷ []))
   pub single : (first : Row) → IsOnLine first.number (deeper first [])
 
-on_inline : (levels line : ℕ) (text : List ℕ) → IsOnLine line (inline levels line text)
+pub on_inline : (levels line : ℕ) (text : List ℕ) → IsOnLine line (inline levels line text)
 on_inline levels line text = on_step line (flow_node levels line text) _ (on_flow_node levels line text) (λ node. on_ok line _)
 
 closed_step : {A : Type 0} (own : List Row) (r : Row) (x : A) → IsStep r.number (closed own x) (closed (own ++ r ∷ []) x)
 closed_step {A} [] r x = on_refused {A = A} r.number Indent
 closed_step (o ∷ own) r x = refl
 
-value_here_step : (levels : ℕ) (head : Row) (text : List ℕ) (own : List Row) (r : Row) → IsStep r.number (value_here levels head text own) (value_here levels head text (own ++ r ∷ []))
+pub value_here_step : (levels : ℕ) (head : Row) (text : List ℕ) (own : List Row) (r : Row) → IsStep r.number (value_here levels head text own) (value_here levels head text (own ++ r ∷ []))
 value_here_step levels head text own r = step_after r.number (inline levels head.number text) (closed own) (closed (own ++ r ∷ [])) (λ x. closed_step own r x)
 
 or_null_step : (deeper : Reader) → IsByLines deeper → (number : ℕ) (own : List Row) (r : Row) → IsStep r.number (block_or_null deeper number own) (block_or_null deeper number (own ++ r ∷ []))
