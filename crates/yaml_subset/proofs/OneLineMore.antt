@@ -1,11 +1,10 @@
 -- One line more at the end of a text: a fault stays, and a new one is told with that line's number.
-use Rattle.std.proofs.Common.{◌≡◌, ℕ, zero, suc, ◌+◌, Bool, true, false, cond, List, [], ◌∷◌, ◌++◌, length, refl, sym, ap, ◌∙◌, subst, arith, append_assoc, length-append}
+use Rattle.std.proofs.Common.{◌≡◌, ℕ, ◌+◌, Bool, true, false, List, [], ◌∷◌, ◌++◌, length, refl, sym, ap, ◌∙◌, subst, arith, append_assoc}
 use Rattle.std.specs.Prelude.{Option, None, Some, Result, Ok, Err, IsOk}
 use Rattle.std.proofs.lemmas.List.{append-nil}
-use Rattle.salt_value.specs.declared.value.Value.TheVariants as v
 use Rattle.salt_value.specs.Readers.{◌>>=◌}
 use Rattle.yaml_words.specs.declared.fault.YamlCause.{YamlCause}
-use Rattle.yaml_words.specs.declared.fault.YamlCause.TheVariants.{Indent, Tab, Unsupported}
+use Rattle.yaml_words.specs.declared.fault.YamlCause.TheVariants.{Tab, Unsupported}
 use Rattle.yaml_words.specs.declared.fault.YamlFault.{YamlFault}
 use Rattle.yaml_words.specs.declared.fault.YamlFault.TheVariants.{Line}
 use Rattle.yaml_words.specs.Faults.{IsOnLine, refused}
@@ -15,10 +14,10 @@ use Rattle.yaml_words.specs.Keys.{is_item, split_key}
 use Rattle.yaml_words.proofs.FaultLines.{on_ok, on_refused, on_if, on_step}
 use Rattle.yaml_subset.specs.declared.tree.Yaml.{Yaml}
 use Rattle.yaml_subset.specs.Rows.{Row, is_start}
-use Rattle.yaml_subset.specs.Blocks.{block, value_here, is_later_start, most_levels, inline, closed}
+use Rattle.yaml_subset.specs.Blocks.{is_later_start, most_levels, inline, closed}
 use Rattle.yaml_subset.specs.Document.{read_lines, onto_rows, all_lines, by_key, document, untabbed, numbered, tree_of, lines_tree}
 use Rattle.yaml_subset.specs.Laws.{BreaksAt}
-use Rattle.yaml_subset.proofs.OneRowMore.{IsStep, step_same, step_if, step_after, step_total, IsByLines, block_lines, on_inline, value_here_step}
+use Rattle.yaml_subset.proofs.OneRowMore.{IsStep, step_same, step_if, step_after, step_total, block_lines, on_inline, value_here_step}
 
 -- what a line more adds to the lines that are not passed over
 data IsFound (k : ℕ) (old new : List Row × Option ℕ) : Type 0 where
@@ -63,7 +62,7 @@ all_more k first (line ∷ lines) l e = start_before k first line lines l (is_st
 on_by_key : (r : Row) (key : Option (List ℕ × List ℕ)) → IsOnLine r.number (by_key r [] key)
 on_by_key r None =
     on_if r.number (is_later_start r) _ _ (on_refused r.number Unsupported)
-        (on_step r.number (inline most_levels r.number r.text) (closed []) (on_inline most_levels r.number r.text) (λ x. on_ok r.number x))
+    (on_step r.number (inline most_levels r.number r.text) (closed []) (on_inline most_levels r.number r.text) (λ x. on_ok r.number x))
 on_by_key r (Some key) = (block_lines most_levels).single r
 
 by_key_step : (x : Row) (xs : List Row) (r : Row) (key : Option (List ℕ × List ℕ)) → IsStep r.number (by_key x xs key) (by_key x (xs ++ r ∷ []) key)
@@ -79,12 +78,12 @@ document_step first (x ∷ xs) r =
 tab_step : (first k : ℕ) (rs : List Row) → IsStep k (tree_of first (rs, None)) (tree_of first (rs, Some k))
 tab_step first k rs =
     step_total k (document first rs >>= untabbed None) (document first rs >>= untabbed (Some k)) (λ tree. record { line = first; node = tree.node }) (numbered first)
-        (step_after k (document first rs) (untabbed None) (untabbed (Some k)) (λ tree. on_refused k Tab)) (λ tree. on_ok k _)
+    (step_after k (document first rs) (untabbed None) (untabbed (Some k)) (λ tree. on_refused k Tab)) (λ tree. on_ok k _)
 
 row_step : (first : ℕ) (rs : List Row) (r : Row) → IsStep r.number (tree_of first (rs, None)) (tree_of first (rs ++ r ∷ [], None))
 row_step first rs r =
     step_total r.number (document first rs >>= untabbed None) (document first (rs ++ r ∷ []) >>= untabbed None) (λ tree. record { line = first; node = tree.node }) (numbered first)
-        (step_total r.number (document first rs) (document first (rs ++ r ∷ [])) (λ tree. tree) (untabbed None) (document_step first rs r) (λ tree. on_ok r.number tree)) (λ tree. on_ok r.number _)
+    (step_total r.number (document first rs) (document first (rs ++ r ∷ [])) (λ tree. tree) (untabbed None) (document_step first rs r) (λ tree. on_ok r.number tree)) (λ tree. on_ok r.number _)
 
 found_step : (first k : ℕ) (old new : List Row × Option ℕ) → IsFound k old new → IsStep k (tree_of first old) (tree_of first new)
 found_step first k old new (same e) = rw e (step_same k (tree_of first old))
@@ -139,7 +138,7 @@ breaks_after : (first : ℕ) (before rest : List (List ℕ)) (n : ℕ) (cause : 
 breaks_after first before [] n cause o e = absurd (contradicts (lines_tree first before) (Line n cause) o (ap (lines_tree first) (sym (append-nil before)) ∙ e))
 breaks_after first before (l ∷ rest) n cause o e =
     ok_or_not first before l rest n cause o (lines_tree first (before ++ l ∷ [])) refl
-        (λ read. breaks_after first (before ++ l ∷ []) rest n cause read (ap (lines_tree first) (append_assoc before (l ∷ []) rest) ∙ e)) e
+    (λ read. breaks_after first (before ++ l ∷ []) rest n cause read (ap (lines_tree first) (append_assoc before (l ∷ []) rest) ∙ e)) e
 
 -- the line that brings a fault
 pub breaks_at : (first : ℕ) (lines : List (List ℕ)) (n : ℕ) (cause : YamlCause) → lines_tree first lines ≡ Err (Line n cause) → BreaksAt first lines n cause

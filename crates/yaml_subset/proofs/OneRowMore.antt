@@ -1,12 +1,9 @@
 -- One line more at the end of a block: a fault stays, and a new one is told with that line's number.
-use Rattle.std.proofs.Common.{◌≡◌, ℕ, zero, suc, Bool, true, false, not, cond, List, [], ◌∷◌, ◌++◌, refl, sym, ap, ◌∙◌, subst}
+use Rattle.std.proofs.Common.{◌≡◌, ℕ, zero, suc, Bool, true, false, not, cond, List, [], ◌∷◌, ◌++◌, refl, sym, ap, ◌∙◌}
 use Rattle.std.specs.Prelude.{Option, None, Some, Result, Ok, Err, ◌==◌, if◌then◌else◌}
-use Rattle.salt_value.specs.declared.value.Value.TheVariants as v
 use Rattle.salt_value.specs.Readers.{◌>>=◌}
-use Rattle.yaml_words.specs.declared.fault.YamlCause.{YamlCause}
 use Rattle.yaml_words.specs.declared.fault.YamlCause.TheVariants.{Indent, KeyTwice, TooDeep, Unsupported}
 use Rattle.yaml_words.specs.declared.fault.YamlFault.{YamlFault}
-use Rattle.yaml_words.specs.declared.fault.YamlFault.TheVariants.{Line}
 use Rattle.yaml_words.specs.Faults.{IsOnLine, refused}
 use Rattle.yaml_words.specs.Keys.{is_item, after_mark, split_key}
 use Rattle.yaml_words.specs.FlowNodes.{flow_node}
@@ -132,9 +129,9 @@ alone r = record { head = r; own = [] }
 item_step : (levels : ℕ) (deeper : Reader) → IsByLines deeper → (column : ℕ) (e : Entry) (r : Row) → IsStep r.number (item_of levels deeper column e) (item_of levels deeper column (more_own e r))
 item_step levels deeper h column e r =
     step_if r.number (not (column_of e.head == column)) _ _ _ _ (step_same r.number (refused {A = Yaml} e.head.number Indent))
-        (step_if r.number (not (is_item e.head.text)) _ _ _ _ (step_same r.number (refused {A = Yaml} e.head.number Indent))
-            (step_if r.number (levels == 0) _ _ _ _ (step_same r.number (refused {A = Yaml} e.head.number TooDeep))
-                (item_value_step levels deeper h e.head (after_mark e.head.text) e.own r)))
+    (step_if r.number (not (is_item e.head.text)) _ _ _ _ (step_same r.number (refused {A = Yaml} e.head.number Indent))
+    (step_if r.number (levels == 0) _ _ _ _ (step_same r.number (refused {A = Yaml} e.head.number TooDeep))
+    (item_value_step levels deeper h e.head (after_mark e.head.text) e.own r)))
 
 on_keyed_item : (levels : ℕ) (deeper : Reader) → IsByLines deeper → (head : Row) (text : List ℕ) (key : Option (List ℕ × List ℕ)) → IsOnLine head.number (keyed_item levels deeper head text [] key)
 on_keyed_item levels deeper h head text None = on_step head.number (inline levels head.number text) (closed []) (on_inline levels head.number text) (λ x. on_ok head.number x)
@@ -148,8 +145,8 @@ on_item_value levels deeper h head (b ∷ bytes) =
 on_item : (levels : ℕ) (deeper : Reader) → IsByLines deeper → (column : ℕ) (r : Row) → IsOnLine r.number (item_of levels deeper column (alone r))
 on_item levels deeper h column r =
     on_if r.number (not (column_of r == column)) _ _ (on_refused r.number Indent)
-        (on_if r.number (not (is_item r.text)) _ _ (on_refused r.number Indent)
-            (on_if r.number (levels == 0) _ _ (on_refused r.number TooDeep) (on_item_value levels deeper h r (after_mark r.text))))
+    (on_if r.number (not (is_item r.text)) _ _ (on_refused r.number Indent)
+    (on_if r.number (levels == 0) _ _ (on_refused r.number TooDeep) (on_item_value levels deeper h r (after_mark r.text))))
 
 pair_value_step : (levels : ℕ) (deeper : Reader) → IsByLines deeper → (head : Row) (text : List ℕ) (own : List Row) (r : Row)
     → IsStep r.number (pair_value levels deeper head text own) (pair_value levels deeper head text (own ++ r ∷ []))
@@ -160,8 +157,8 @@ pair_under_step : (levels : ℕ) (deeper : Reader) → IsByLines deeper → (twi
     → IsStep r.number (pair_under levels deeper twice e key) (pair_under levels deeper twice (more_own e r) key)
 pair_under_step levels deeper h twice e key r =
     step_if r.number twice _ _ _ _ (step_same r.number (refused {A = YamlPair} e.head.number KeyTwice))
-        (step_if r.number (levels == 0) _ _ _ _ (step_same r.number (refused {A = YamlPair} e.head.number TooDeep))
-            (step_total r.number _ _ _ _ (pair_value_step levels deeper h e.head (after_key (split_key e.head.text)) e.own r) (λ value. on_ok r.number _)))
+    (step_if r.number (levels == 0) _ _ _ _ (step_same r.number (refused {A = YamlPair} e.head.number TooDeep))
+    (step_total r.number _ _ _ _ (pair_value_step levels deeper h e.head (after_key (split_key e.head.text)) e.own r) (λ value. on_ok r.number _)))
 
 pair_step : (levels : ℕ) (deeper : Reader) → IsByLines deeper → (column : ℕ) (keys : List (List ℕ)) (e : Entry) (r : Row)
     → IsStep r.number (pair_of levels deeper column keys e) (pair_of levels deeper column keys (more_own e r))
@@ -171,7 +168,7 @@ pair_step levels deeper h column keys e r =
 on_key_or_fault : (head : Row) (key : Option (List ℕ × List ℕ)) → IsOnLine head.number (key_or_fault head key)
 on_key_or_fault head None =
     on_if head.number (is_later_start head) _ _ (on_refused head.number Unsupported)
-        (on_step head.number (flow_node most_levels head.number head.text) _ (on_flow_node most_levels head.number head.text) (λ node. on_refused head.number Indent))
+    (on_step head.number (flow_node most_levels head.number head.text) _ (on_flow_node most_levels head.number head.text) (λ node. on_refused head.number Indent))
 on_key_or_fault head (Some k) = on_key head.number k.0
 
 on_pair_value : (levels : ℕ) (deeper : Reader) (head : Row) (text : List ℕ) → IsOnLine head.number (pair_value levels deeper head text [])
@@ -181,13 +178,13 @@ on_pair_value levels deeper head (b ∷ bytes) = on_step head.number (inline lev
 on_pair_under : (levels : ℕ) (deeper : Reader) (twice : Bool) (r : Row) (key : List ℕ) → IsOnLine r.number (pair_under levels deeper twice (alone r) key)
 on_pair_under levels deeper twice r key =
     on_if r.number twice _ _ (on_refused r.number KeyTwice)
-        (on_if r.number (levels == 0) _ _ (on_refused r.number TooDeep)
-            (on_step r.number (pair_value levels deeper r (after_key (split_key r.text)) []) _ (on_pair_value levels deeper r (after_key (split_key r.text))) (λ value. on_ok r.number _)))
+    (on_if r.number (levels == 0) _ _ (on_refused r.number TooDeep)
+    (on_step r.number (pair_value levels deeper r (after_key (split_key r.text)) []) _ (on_pair_value levels deeper r (after_key (split_key r.text))) (λ value. on_ok r.number _)))
 
 on_pair : (levels : ℕ) (deeper : Reader) (column : ℕ) (keys : List (List ℕ)) (r : Row) → IsOnLine r.number (pair_of levels deeper column keys (alone r))
 on_pair levels deeper column keys r =
     on_step r.number (key_of column r) _ (on_if r.number (not (column_of r == column)) _ _ (on_refused r.number Indent) (on_key_or_fault r (split_key r.text)))
-        (λ key. on_pair_under levels deeper (has_key keys key) r key)
+    (λ key. on_pair_under levels deeper (has_key keys key) r key)
 
 last_item : (levels : ℕ) (deeper : Reader) → IsByLines deeper → (column : ℕ) (begins : Row → Bool) (r : Row) (before : List Yaml) (e : Entry) (is : Bool) → begins r ≡ is
     → IsStep r.number (items_of levels deeper column before (e ∷ [])) (items_of levels deeper column before (with_row begins r (e ∷ [])))
@@ -220,22 +217,22 @@ pairs_step levels deeper h column begins r before (e ∷ next ∷ es) =
 list_step : (levels : ℕ) (deeper : Reader) → IsByLines deeper → (first : Row) (rest : List Row) (r : Row) → IsStep r.number (list_of levels deeper first rest) (list_of levels deeper first (rest ++ r ∷ []))
 list_step levels deeper h first rest r =
     rw (entries_more (begins_item (column_of first)) first r rest)
-        (step_total r.number _ _ _ _ (items_step levels deeper h (column_of first) (begins_item (column_of first)) r [] (entries (begins_item (column_of first)) first rest)) (λ x. on_ok r.number _))
+    (step_total r.number _ _ _ _ (items_step levels deeper h (column_of first) (begins_item (column_of first)) r [] (entries (begins_item (column_of first)) first rest)) (λ x. on_ok r.number _))
 
 map_step : (levels : ℕ) (deeper : Reader) → IsByLines deeper → (first : Row) (rest : List Row) (r : Row) → IsStep r.number (map_of levels deeper first rest) (map_of levels deeper first (rest ++ r ∷ []))
 map_step levels deeper h first rest r =
     rw (entries_more (begins_pair (column_of first)) first r rest)
-        (step_total r.number _ _ _ _ (pairs_step levels deeper h (column_of first) (begins_pair (column_of first)) r [] (entries (begins_pair (column_of first)) first rest)) (λ x. on_ok r.number _))
+    (step_total r.number _ _ _ _ (pairs_step levels deeper h (column_of first) (begins_pair (column_of first)) r [] (entries (begins_pair (column_of first)) first rest)) (λ x. on_ok r.number _))
 
 on_list : (levels : ℕ) (deeper : Reader) → IsByLines deeper → (first : Row) → IsOnLine first.number (list_of levels deeper first [])
 on_list levels deeper h first =
     on_step first.number (items_of levels deeper (column_of first) [] (alone first ∷ [])) _
-        (on_step first.number (item_of levels deeper (column_of first) (alone first)) _ (on_item levels deeper h (column_of first) first) (λ x. on_ok first.number _)) (λ x. on_ok first.number _)
+    (on_step first.number (item_of levels deeper (column_of first) (alone first)) _ (on_item levels deeper h (column_of first) first) (λ x. on_ok first.number _)) (λ x. on_ok first.number _)
 
 on_map : (levels : ℕ) (deeper : Reader) (first : Row) → IsOnLine first.number (map_of levels deeper first [])
 on_map levels deeper first =
     on_step first.number (pairs_of levels deeper (column_of first) [] (alone first ∷ [])) _
-        (on_step first.number (pair_of levels deeper (column_of first) [] (alone first)) _ (on_pair levels deeper (column_of first) [] first) (λ x. on_ok first.number _)) (λ x. on_ok first.number _)
+    (on_step first.number (pair_of levels deeper (column_of first) [] (alone first)) _ (on_pair levels deeper (column_of first) [] first) (λ x. on_ok first.number _)) (λ x. on_ok first.number _)
 
 block_of_lines : (levels : ℕ) (deeper : Reader) → IsByLines deeper → IsByLines (block_of levels deeper)
 block_of_lines levels deeper h = record {

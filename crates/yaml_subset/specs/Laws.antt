@@ -1,7 +1,6 @@
 -- What a fault says of the lines of a text.
-use Rattle.std.specs.Prelude.{◌≡◌, ℕ, ◌+◌, List, [], ◌∷◌, ◌++◌, length, Result, Ok, Err, IsOk}
+use Rattle.std.specs.Prelude.{◌≡◌, ℕ, ◌+◌, List, ◌∷◌, ◌++◌, length, Err, IsOk}
 use Rattle.yaml_words.specs.declared.fault.YamlCause.{YamlCause}
-use Rattle.yaml_words.specs.declared.fault.YamlFault.{YamlFault}
 use Rattle.yaml_words.specs.declared.fault.YamlFault.TheVariants.{Line}
 use Rattle.yaml_subset.specs.Document.{lines_tree}
 

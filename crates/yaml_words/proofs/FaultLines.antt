@@ -1,5 +1,5 @@
 -- Each fault of what stands on a line is told with that line's number.
-use Rattle.std.proofs.Common.{◌≡◌, ℕ, zero, suc, Bool, true, false, cond, List, [], ◌∷◌, ◌++◌, drop, length, take, refl, sym, ap}
+use Rattle.std.proofs.Common.{◌≡◌, ℕ, zero, suc, Bool, true, false, cond, List, [], ◌∷◌, ◌++◌, drop, length, take, ap}
 use Rattle.std.specs.Prelude.{Option, None, Some, Result, Ok, Err, nat_lt, ◌&&◌}
 use Rattle.salt_value.specs.declared.value.Value.{Value}
 use Rattle.salt_value.specs.Readers.{◌>>=◌}
@@ -10,17 +10,17 @@ use Rattle.yaml_words.specs.declared.fault.YamlFault.TheVariants.{Line}
 use Rattle.yaml_words.specs.declared.flow.FlowNode.{FlowNode}
 use Rattle.yaml_words.specs.declared.numbers.Numeral.{Numeral}
 use Rattle.yaml_words.specs.declared.numbers.Numeral.TheVariants.{Whole, Refused, Other}
-use Rattle.yaml_words.specs.declared.places.Delimiter.TheVariants.{Open, Stray, Return}
+use Rattle.yaml_words.specs.declared.places.Delimiter.TheVariants.{Open, Return}
 use Rattle.yaml_words.specs.declared.quotes.QuoteKind.{QuoteKind}
 use Rattle.yaml_words.specs.declared.quotes.QuoteKind.TheVariants.{Single, Double}
 use Rattle.yaml_words.specs.Faults.{IsOnLine, refused, unless}
 use Rattle.yaml_words.specs.Places.{begins_with, is_empty, is_at, place, has}
 use Rattle.yaml_words.specs.Spaces.{trimmed, after_spaces}
-use Rattle.yaml_words.specs.Quotes.{quoted_text, returnless, written, unquoted, after_quote}
+use Rattle.yaml_words.specs.Quotes.{quoted_text, returnless, written, unquoted}
 use Rattle.yaml_words.specs.Numbers.{numeral}
-use Rattle.yaml_words.specs.Plain.{plain, by_numeral, plain_text, plain_fault, plain_value, may_begin, text_fault}
-use Rattle.yaml_words.specs.Lists.{quoted_value, closed_text, quoted_item, item, ends_item, item_size, after_item, closed_list, further, items, list_node}
-use Rattle.yaml_words.specs.Keys.{key, quoted_key, plain_key}
+use Rattle.yaml_words.specs.Plain.{plain, by_numeral, plain_fault, plain_value, may_begin, text_fault}
+use Rattle.yaml_words.specs.Lists.{quoted_value, closed_text, item, item_size, after_item, closed_list, further, items, list_node}
+use Rattle.yaml_words.specs.Keys.{key, quoted_key}
 use Rattle.yaml_words.specs.FlowNodes.{flow_node, quoted_node, plain_node, map_node, plain_part, scalar}
 
 pub on_ok : {A : Type 0} (line : ℕ) (x : A) → IsOnLine {A = A} line (Ok x)
@@ -66,7 +66,7 @@ on_quoted_value line quote text may_follow =
 on_item : (line : ℕ) (text : List ℕ) → IsOnLine line (item line text)
 on_item line text =
     on_if line (begins_with 39 text) _ _ (on_quoted_value line Single (drop 1 text) _)
-        (on_if line (begins_with 34 text) _ _ (on_quoted_value line Double (drop 1 text) _) (on_plain line (trimmed (take (item_size text) text))))
+    (on_if line (begins_with 34 text) _ _ (on_quoted_value line Double (drop 1 text) _) (on_plain line (trimmed (take (item_size text) text))))
 
 on_closed_list : (line : ℕ) (values : List Value) (text : List ℕ) → IsOnLine line (closed_list line values text)
 on_closed_list line values text = on_if line (is_empty (after_spaces text)) _ _ (on_ok line _) (on_refused line Unsupported)
@@ -75,20 +75,20 @@ on_further : (others : List Value → List ℕ → Result FlowNode YamlFault) (l
     → ((values : List Value) (rest : List ℕ) → IsOnLine line (others values rest)) → IsOnLine line (further others line before text)
 on_further others line before text h =
     on_if line (begins_with 93 text) _ _ (on_closed_list line before (drop 1 text))
-        (on_if line (begins_with 44 text) _ _ (h before (after_spaces (drop 1 text))) (on_refused line Unsupported))
+    (on_if line (begins_with 44 text) _ _ (h before (after_spaces (drop 1 text))) (on_refused line Unsupported))
 
 on_items : (n line : ℕ) (before : List Value) (text : List ℕ) → IsOnLine line (items n line before text)
 unfolding items
 on_items zero line before text = on_refused line Unsupported
 on_items (suc n) line before text =
     on_step line (item line text) (λ value. further (items n line) line (before ++ value ∷ []) (after_item text)) (on_item line text)
-        (λ value. on_further (items n line) line (before ++ value ∷ []) (after_item text) (on_items n line))
+    (λ value. on_further (items n line) line (before ++ value ∷ []) (after_item text) (on_items n line))
 
 on_list : (levels line : ℕ) (text : List ℕ) → IsOnLine line (list_node levels line text)
 on_list levels line text =
     on_if line (is_empty text) _ _ (on_refused line Unsupported)
-        (on_if line (begins_with 93 text) _ _ (on_closed_list line [] (drop 1 text))
-            (on_if line (nat_lt levels 2) _ _ (on_refused line TooDeep) (on_items (length text) line [] text)))
+    (on_if line (begins_with 93 text) _ _ (on_closed_list line [] (drop 1 text))
+    (on_if line (nat_lt levels 2) _ _ (on_refused line TooDeep) (on_items (length text) line [] text)))
 
 on_scalar : (line : ℕ) (value : Value) → IsOnLine line (scalar value)
 on_scalar line value = on_ok line _
@@ -106,10 +106,10 @@ on_map_node line text = on_if line (begins_with 125 text && is_empty (after_spac
 pub on_flow_node : (levels line : ℕ) (text : List ℕ) → IsOnLine line (flow_node levels line text)
 on_flow_node levels line text =
     on_if line (begins_with 39 text) _ _ (on_quoted_node line Single (drop 1 text))
-        (on_if line (begins_with 34 text) _ _ (on_quoted_node line Double (drop 1 text))
-            (on_if line (begins_with 91 text) _ _ (on_list levels line (after_spaces (drop 1 text)))
-                (on_if line (is_at Open text) _ _ (on_plain_node line text)
-                    (on_if line (begins_with 123 text) _ _ (on_map_node line (after_spaces (drop 1 text))) (on_plain_node line text)))))
+    (on_if line (begins_with 34 text) _ _ (on_quoted_node line Double (drop 1 text))
+    (on_if line (begins_with 91 text) _ _ (on_list levels line (after_spaces (drop 1 text)))
+    (on_if line (is_at Open text) _ _ (on_plain_node line text)
+    (on_if line (begins_with 123 text) _ _ (on_map_node line (after_spaces (drop 1 text))) (on_plain_node line text)))))
 
 on_quoted_key : (line : ℕ) (quote : QuoteKind) (text : List ℕ) → IsOnLine line (quoted_key line quote text)
 on_quoted_key line quote text = on_step line (quoted_text line quote text) (λ t. unless line (text_fault (length t) (place Open t) (length t)) t) (on_quoted_text line quote text) (λ t. on_unless line _ t)
@@ -118,5 +118,5 @@ on_quoted_key line quote text = on_step line (quoted_text line quote text) (λ t
 pub on_key : (line : ℕ) (text : List ℕ) → IsOnLine line (key line text)
 on_key line text =
     on_if line (begins_with 39 text) _ _ (on_quoted_key line Single (drop 1 text))
-        (on_if line (begins_with 34 text) _ _ (on_quoted_key line Double (drop 1 text))
-            (on_if line (may_begin text) _ _ (on_unless line _ text) (on_refused line Unsupported)))
+    (on_if line (begins_with 34 text) _ _ (on_quoted_key line Double (drop 1 text))
+    (on_if line (may_begin text) _ _ (on_unless line _ text) (on_refused line Unsupported)))

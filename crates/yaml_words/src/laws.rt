@@ -8,5 +8,4 @@ ghost use Rattle.yaml_words.specs.Keys.{key};
 pub fn faults_have_their_line(text: &str)
     ensures node { (levels line : ℕ) → IsOnLine line (flow_node levels line text.now) }
     ensures key { (line : ℕ) → IsOnLine line (key line text.now) }
-{
-}
+{}
