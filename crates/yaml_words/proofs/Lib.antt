@@ -6,3 +6,5 @@ mod MarkLemmas
 mod ItemLemmas
 mod KeyLemmas
 pub mod FaultLines
+mod WrittenTexts
+mod WrittenNumbers

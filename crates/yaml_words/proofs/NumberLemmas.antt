@@ -27,7 +27,7 @@ stays (b ∷ bytes) e = rw e refl
 pub no_digit_stays : (text : List ℕ) (at : ℕ) → begins_with_digit (drop at text) ≡ false → after_digits (drop at text) ≡ drop at text
 no_digit_stays text at e = stays (drop at text) e
 
-own : IsNumeralModel (λ ds. all_ascii_digits ds ≡ true) (digits_value 10)
+pub own : IsNumeralModel (λ ds. all_ascii_digits ds ≡ true) (digits_value 10)
 own = numerals_by_value (λ ds. all_ascii_digits ds ≡ true) tells_all_ascii_digits
 
 and_left : (a b : Bool) → a && b ≡ true → a ≡ true

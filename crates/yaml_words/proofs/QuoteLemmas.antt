@@ -27,7 +27,7 @@ or_right true b e = cc
 or_right false b e = e
 
 -- a plain byte
-plain_byte : (q : QuoteKind) (b : ℕ) (bytes : List ℕ) → (b == closing_byte q) ≡ false → (b == escape_byte q) ≡ false → quoted q (b ∷ bytes) ≡ with_text (b ∷ []) (quoted q bytes)
+pub plain_byte : (q : QuoteKind) (b : ℕ) (bytes : List ℕ) → (b == closing_byte q) ≡ false → (b == escape_byte q) ≡ false → quoted q (b ∷ bytes) ≡ with_text (b ∷ []) (quoted q bytes)
 plain_byte q b [] e f = rw e refl
 plain_byte q b (c ∷ bytes) e f = rw (f, e) refl
 

@@ -2,6 +2,7 @@ pub mod FlowNodes
 pub mod Keys
 pub mod Lists
 pub mod Plain
+pub mod Written
 pub mod Numbers
 pub mod Quotes
 pub mod Places

@@ -16,7 +16,7 @@ mod spaces;
 pub use fault::{YamlCause, YamlFault, refused};
 pub use flow::{FlowNode, read_flow_node};
 pub use keys::{after_mark, is_item, read_key, split_key};
-pub use laws::faults_have_their_line;
+pub use laws::{faults_have_their_line, written_is_read_back};
 pub use places::{Delimiter, begins_with, ends_or, place};
 pub use plain::MOST_SCALAR_BYTES;
 pub use quotes::QuoteKind;
