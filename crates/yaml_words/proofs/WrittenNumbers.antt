@@ -1,22 +1,20 @@
 -- A whole number in decimal digits is read as it was.
-use Rattle.std.proofs.Common.{◌≡◌, ℕ, zero, suc, ◌+◌, ◌<◌, ◌≤◌, ◌^◌, Bool, true, false, cond, List, [], ◌∷◌, take, drop, length, get_or, refl, sym, ap, ◌∙◌, subst, arith}
-use Rattle.std.specs.Prelude.{◌==◌, ◌&&◌, ◌||◌, nat_lt, nat_le, Result, Ok, decimal, pos, negsuc, neg_ℤ, ℤ, FitsSigned}
+use Rattle.std.proofs.Common.{◌≡◌, ℕ, zero, suc, ◌<◌, ◌≤◌, ◌^◌, true, false, List, [], ◌∷◌, get_or, refl, ap, ◌∙◌, arith}
+use Rattle.std.specs.Prelude.{◌==◌, Ok, decimal, pos, negsuc, neg_ℤ, ℤ, FitsSigned}
 use Rattle.std.specs.Char.{is_ascii_digit}
 use Rattle.std.specs.Int.{w64, IsInRange}
 use Rattle.std.specs.Fmt.{signed_decimal}
 use Rattle.std.specs.List.{list_any}
 use Rattle.std.specs.Str.{all_ascii_digits}
 use Rattle.std.specs.Str.Parse.{digits_value}
-use Rattle.std.proofs.lemmas.Fmt.{decimal_digit, decimal_nonempty, first_decimal, digits_decimal, digits_value-decimal}
+use Rattle.std.proofs.lemmas.Fmt.{decimal_digit, first_decimal, digits_decimal, digits_value-decimal}
 use Rattle.std.proofs.lemmas.Int.{ints}
 use Rattle.std.proofs.lemmas.Str.Parse.{tells_all_ascii_digits}
 use Rattle.salt_value.specs.declared.value.Value.TheVariants as v
 use Rattle.yaml_words.specs.declared.flow.FlowNode.TheVariants as w
 use Rattle.yaml_words.specs.declared.numbers.Numeral.TheVariants.{Whole}
-use Rattle.yaml_words.specs.declared.places.Delimiter.TheVariants.{Comment, Open}
-use Rattle.yaml_words.specs.Places.{place, is_at, begins_with}
 use Rattle.yaml_words.specs.Spaces.{trimmed, onto_trimmed, uncommented}
-use Rattle.yaml_words.specs.Numbers.{numeral, after_digits, is_digits, within_64_bits}
+use Rattle.yaml_words.specs.Numbers.{numeral, after_digits, within_64_bits}
 use Rattle.yaml_words.specs.Plain.{plain, may_begin}
 use Rattle.salt_value.specs.Readers.{◌>>=◌}
 use Rattle.yaml_words.specs.FlowNodes.{flow_node, plain_node, plain_part, scalar}
@@ -48,9 +46,22 @@ begins : (c : ℕ) → IsInRange 48 57 c → list_any (λ k. c == k) (42 ∷ 38 
 begins c h =
     let low : 48 ≤ c = h.0 in
     let high : c ≤ 57 = h.1 in
-    rw (ne c 42 (λ e. omega (arith, e)), ne c 38 (λ e. omega (arith, e)), ne c 33 (λ e. omega (arith, e)), ne c 124 (λ e. omega (arith, e)), ne c 62 (λ e. omega (arith, e)), ne c 37 (λ e. omega (arith, e)),
-        ne c 64 (λ e. omega (arith, e)), ne c 123 (λ e. omega (arith, e)), ne c 125 (λ e. omega (arith, e)), ne c 91 (λ e. omega (arith, e)), ne c 93 (λ e. omega (arith, e)), ne c 44 (λ e. omega (arith, e)),
-        ne c 35 (λ e. omega (arith, e)), ne c 96 (λ e. omega (arith, e))) refl
+    rw (
+      ne c 42 (λ e. omega (arith, e)),
+      ne c 38 (λ e. omega (arith, e)),
+      ne c 33 (λ e. omega (arith, e)),
+      ne c 124 (λ e. omega (arith, e)),
+      ne c 62 (λ e. omega (arith, e)),
+      ne c 37 (λ e. omega (arith, e)),
+      ne c 64 (λ e. omega (arith, e)),
+      ne c 123 (λ e. omega (arith, e)),
+      ne c 125 (λ e. omega (arith, e)),
+      ne c 91 (λ e. omega (arith, e)),
+      ne c 93 (λ e. omega (arith, e)),
+      ne c 44 (λ e. omega (arith, e)),
+      ne c 35 (λ e. omega (arith, e)),
+      ne c 96 (λ e. omega (arith, e)),
+    ) refl
 
 positive : (n : ℕ) → n < 2 ^ 63 → within_64_bits false n ≡ Whole (pos n)
 positive n h = grind arith

@@ -1,21 +1,17 @@
 -- A text in double quotes is read as it was.
-use Rattle.std.proofs.Common.{◌≡◌, ℕ, zero, suc, ◌+◌, ◌-◌, ◌<◌, ◌≤◌, Bool, true, false, cond, List, [], ◌∷◌, ◌++◌, take, drop, length, refl, sym, ap, ◌∙◌, arith, append_assoc, length-append}
-use Rattle.std.specs.Prelude.{◌==◌, ◌&&◌, ◌||◌, nat_lt, nat_le, Option, None, Some, Result, Ok, Err, option_map}
+use Rattle.std.proofs.Common.{◌≡◌, ℕ, suc, ◌+◌, ◌-◌, ◌≤◌, Bool, true, false, List, [], ◌∷◌, ◌++◌, take, drop, length, refl, sym, ap, ◌∙◌, arith, append_assoc, length-append}
+use Rattle.std.specs.Prelude.{◌==◌, nat_lt, Some, Ok, option_map}
 use Rattle.std.proofs.lemmas.Bool.{eqb-true}
 use Rattle.std.proofs.lemmas.List.{take_at, drop_at}
 use Rattle.salt_value.specs.declared.value.Value.TheVariants as v
-use Rattle.salt_value.specs.Readers.{◌>>=◌}
-use Rattle.yaml_words.specs.declared.fault.YamlCause.{YamlCause}
-use Rattle.yaml_words.specs.declared.fault.YamlFault.{YamlFault}
 use Rattle.yaml_words.specs.declared.flow.FlowNode.TheVariants as w
-use Rattle.yaml_words.specs.declared.places.Delimiter.TheVariants.{Return, Open, KeyEnd}
+use Rattle.yaml_words.specs.declared.places.Delimiter.TheVariants.{Return, Open}
 use Rattle.yaml_words.specs.declared.quotes.QuoteKind.TheVariants.{Double}
-use Rattle.yaml_words.specs.Faults.{unless}
-use Rattle.yaml_words.specs.Places.{place, has, is_empty}
+use Rattle.yaml_words.specs.Places.{place, is_empty}
 use Rattle.yaml_words.specs.Spaces.{after_spaces}
-use Rattle.yaml_words.specs.Quotes.{quoted, with_text, unquoted, after_quote, rest_of, written, quoted_text, returnless}
-use Rattle.yaml_words.specs.Plain.{text_fault, most_scalar_bytes}
-use Rattle.yaml_words.specs.Lists.{closed_text, quoted_value}
+use Rattle.yaml_words.specs.Quotes.{quoted, with_text, after_quote, rest_of, written, quoted_text}
+use Rattle.yaml_words.specs.Plain.{most_scalar_bytes}
+use Rattle.yaml_words.specs.Lists.{quoted_value}
 use Rattle.yaml_words.specs.Keys.{key, split_key, cut_key, quoted_key_size}
 use Rattle.yaml_words.specs.FlowNodes.{flow_node}
 use Rattle.yaml_words.specs.Written.{spelled_byte, spelled, in_quotes}

@@ -1,8 +1,7 @@
 -- How scalars are written, so that they are read as they were.
-use Rattle.std.specs.Prelude.{◌≡◌, ℕ, ◌==◌, ◌≤◌, List, [], ◌∷◌, ◌++◌, length, true, codes, Option, Some, Result, Ok, ℤ, false, FitsSigned, if◌then◌else◌}
+use Rattle.std.specs.Prelude.{◌≡◌, ℕ, ◌==◌, ◌≤◌, List, [], ◌∷◌, ◌++◌, length, true, codes, Some, Ok, ℤ, false, FitsSigned, if◌then◌else◌}
 use Rattle.std.specs.Int.{w64}
 use Rattle.std.specs.Fmt.{signed_decimal}
-use Rattle.salt_value.specs.declared.value.Value.{Value}
 use Rattle.salt_value.specs.declared.value.Value.TheVariants as v
 use Rattle.yaml_words.specs.declared.flow.FlowNode.TheVariants as w
 use Rattle.yaml_words.specs.declared.places.Delimiter.TheVariants.{Open}

@@ -15,5 +15,4 @@ pub fn faults_have_their_line(text: &str)
 pub fn written_is_read_back()
     ensures scalars { ScalarsReadBack }
     ensures keys { KeysReadBack }
-{
-}
+{}
