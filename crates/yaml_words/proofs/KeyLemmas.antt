@@ -5,7 +5,7 @@ use Rattle.std.proofs.lemmas.Bool.{eqb-true}
 use Rattle.std.proofs.lemmas.List.{get_or-drop, get_or-take, drop_all, length-take}
 use Rattle.yaml_words.specs.declared.places.Delimiter.TheVariants.{KeyEnd, Comment}
 use Rattle.yaml_words.specs.declared.quotes.QuoteKind.{QuoteKind}
-use Rattle.yaml_words.specs.Places.{closing_byte, escape_byte, ends_or, is_at, place}
+use Rattle.yaml_words.specs.Places.{IsAsciiPlace, closing_byte, escape_byte, ends_or, is_at, place}
 use Rattle.yaml_words.specs.Spaces.{uncommented}
 use Rattle.yaml_words.specs.Quotes.{quoted, rest_of, after_quote, by_escape, escaped}
 use Rattle.yaml_words.specs.Keys.{quoted_key_size}
@@ -60,10 +60,6 @@ and_left false b e = cc
 colon_first : (rest : List ℕ) → is_at KeyEnd rest ≡ true → (0 < length rest) × (get_or rest 0 0 ≡ 58)
 colon_first [] e = cc
 colon_first (b ∷ bytes) e = (omega arith, eqb-true b 58 (and_left (b == 58) (ends_or 32 bytes) e))
-
--- a place within a text, before an ASCII byte
-abbrev pub IsAsciiPlace : List ℕ → ℕ → Type 0
-IsAsciiPlace text size = (size < length text) × (slice_index text size < 128)
 
 left_place : (text rest : List ℕ) → IsLeft text rest → is_at KeyEnd rest ≡ true → IsAsciiPlace text (length text - length rest)
 left_place text rest h e =

@@ -53,13 +53,17 @@ abbrev pub within_64_bits : Bool → ℕ → Numeral
 within_64_bits true n = if nat_le n (2 ^ 63) then Whole (neg_ℤ (pos n)) else Refused
 within_64_bits false n = if nat_lt n (2 ^ 63) then Whole (pos n) else Refused
 
+-- the number that digits are, with the sign before them
+abbrev pub signed_number : List ℕ → Numeral
+signed_number text = within_64_bits (begins_with 45 text) (digits_value 10 (unsigned text))
+
 -- a sign or none and digits: `0` is a number, and with a sign a text; no other leading zero is taken
 abbrev pub whole_number : List ℕ → Numeral
 whole_number text =
     if bytes_eq text (codes "0") then Whole (pos 0)
     else if bytes_eq (unsigned text) (codes "0") then Other
     else if begins_with 48 (unsigned text) then Refused
-    else within_64_bits (begins_with 45 text) (digits_value 10 (unsigned text))
+    else signed_number text
 
 -- a plain scalar as a number: a whole one, one that is refused, or none
 abbrev pub numeral : List ℕ → Numeral

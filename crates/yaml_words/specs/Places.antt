@@ -1,5 +1,5 @@
 -- Places in a line: what stands there, and where it stands first.
-use Rattle.std.specs.Prelude.{ℕ, suc, ◌==◌, ◌&&◌, ◌||◌, nat_lt, Bool, true, false, List, [], ◌∷◌, length, if◌then◌else◌}
+use Rattle.std.specs.Prelude.{◌≡◌, ◌<◌, slice_index, drop, ℕ, suc, ◌==◌, ◌&&◌, ◌||◌, nat_lt, Bool, true, false, List, [], ◌∷◌, length, if◌then◌else◌}
 use Rattle.yaml_words.specs.declared.quotes.QuoteKind.{QuoteKind}
 use Rattle.yaml_words.specs.declared.quotes.QuoteKind.TheVariants.{Single, Double}
 use Rattle.yaml_words.specs.declared.places.Delimiter.{Delimiter}
@@ -14,6 +14,10 @@ is_empty (b ∷ bytes) = false
 abbrev pub begins_with : ℕ → List ℕ → Bool
 begins_with a [] = false
 begins_with a (b ∷ bytes) = b == a
+
+-- the first byte is this one, and this is what stands after it
+abbrev pub IsAfterByte : ℕ → List ℕ → List ℕ → Type 0
+IsAfterByte byte text rest = (begins_with byte text ≡ true) × (rest ≡ drop 1 text)
 
 -- is there no byte, or is the first one this one
 abbrev pub ends_or : ℕ → List ℕ → Bool
@@ -56,6 +60,10 @@ is_at Feed (b ∷ bytes) = b == 10
 is_at ItemEnd (b ∷ bytes) = is_item_end b
 is_at PlainEnd (b ∷ bytes) = is_item_end b || is_comment b bytes
 is_at (Special q) (b ∷ bytes) = b == closing_byte q || b == escape_byte q
+
+-- a place within a text, before an ASCII byte
+abbrev pub IsAsciiPlace : List ℕ → ℕ → Type 0
+IsAsciiPlace text at = (at < length text) × (slice_index text at < 128)
 
 -- how many bytes stand before the first such place, all where there is none
 abbrev pub place : Delimiter → List ℕ → ℕ

@@ -1,5 +1,5 @@
 -- Texts in quotes.
-use Rattle.std.specs.Prelude.{ℕ, ◌-◌, ◌==◌, List, [], ◌∷◌, ◌++◌, length, take, drop, Option, None, Some, option_map, Result, Ok, if◌then◌else◌}
+use Rattle.std.specs.Prelude.{◌≡◌, ℕ, ◌-◌, ◌==◌, List, [], ◌∷◌, ◌++◌, length, take, drop, Option, None, Some, option_map, Result, Ok, if◌then◌else◌}
 use Rattle.yaml_words.specs.declared.fault.YamlCause.TheVariants.{Quote, Unsupported}
 use Rattle.yaml_words.specs.declared.fault.YamlFault.{YamlFault}
 use Rattle.yaml_words.specs.declared.places.Delimiter.TheVariants.{Return}
@@ -37,6 +37,10 @@ quoted quote (b ∷ c ∷ bytes) =
     if b == escape_byte quote then by_escape quote b (c ∷ bytes) (escaped quote c) (quoted quote bytes)
     else if b == closing_byte quote then Some ([], c ∷ bytes)
     else with_text (b ∷ []) (quoted quote (c ∷ bytes))
+
+-- No public contract cites it. A text after its opening quote is this text, and then what the rest is.
+abbrev pub ReadsOn : QuoteKind → List ℕ → List ℕ → List ℕ → Type 0
+ReadsOn quote text front rest = quoted quote text ≡ with_text front (quoted quote rest)
 
 -- No public contract cites it. A rest that begins with no escape and no plain byte: it begins with the closing quote, or isn't closed.
 abbrev pub closed : QuoteKind → List ℕ → Option (List ℕ × List ℕ)

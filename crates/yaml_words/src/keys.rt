@@ -1,7 +1,8 @@
 //! Items and keys at the front of a line.
-ghost use Rattle.std.specs.Prelude.{◌≡◌, ◌<◌, ◌+◌, length, take, drop, slice_index, true, MatchOption, IfSome, None, Some};
+ghost use Rattle.std.specs.Prelude.{◌≡◌, ◌<◌, ◌+◌, length, take, drop, slice_index, true, IfSome, option_map};
 ghost use Rattle.yaml_words.specs.Faults.{GivesYaml};
 ghost use Rattle.yaml_words.specs.Keys as spec;
+ghost use Rattle.yaml_words.specs.Places.{IsAsciiPlace};
 ghost use Rattle.yaml_words.specs.Spaces as spaces;
 
 use crate::fault::{YamlCause, YamlFault, refused};
@@ -42,7 +43,7 @@ fn quoted_key_size(text: &str, rest: &str) -> Option<usize>
 
 fn plain_key_size(text: &str) -> Option<usize>
     ensures value { result ≡ spec.plain_key_size text.now }
-    ensures within { IfSome result (λ size. (size < length text.now) × (slice_index text.now size < 128)) }
+    ensures within { IfSome result (IsAsciiPlace text.now) }
 {
     let size = place(Delimiter::KeyEnd, text.as_bytes());
     if size < text.len() {
@@ -54,7 +55,7 @@ fn plain_key_size(text: &str) -> Option<usize>
 /// How many bytes the key has with which a line begins, if it begins with one.
 fn key_size(text: &str) -> Option<usize>
     ensures value { result ≡ spec.key_size text.now }
-    ensures within { IfSome result (λ size. (size < length text.now) × (slice_index text.now size < 128)) }
+    ensures within { IfSome result (IsAsciiPlace text.now) }
 {
     if begins_with(text.as_bytes(), b'[') || begins_with(text.as_bytes(), b'{') {
         return None;
@@ -81,7 +82,7 @@ fn cut_key(text: &str, size: usize) -> (&str, &str)
 
 /// The key with which a line begins, as it is written, and what stands after its colon.
 pub fn split_key(text: &str) -> Option<(&str, &str)>
-    ensures { MatchOption result (spec.split_key text.now ≡ None) (λ x. spec.split_key text.now ≡ Some (x.0.now, x.1.now)) }
+    ensures { spec.split_key text.now ≡ option_map (λ x. (x.0.now, x.1.now)) result }
 {
     match key_size(text) {
         None => None,

@@ -1,7 +1,5 @@
 //! Numbers.
 ghost use Rattle.std.specs.Prelude.{◌≡◌, true};
-ghost use Rattle.std.specs.Str.Parse.{digits_value};
-ghost use Rattle.yaml_words.specs.Places.{begins_with};
 ghost use Rattle.yaml_words.specs.Numbers as spec;
 
 use crate::places::begins_with;
@@ -98,9 +96,9 @@ fn is_decimal(text: &[u8]) -> bool
 }
 
 /// A number of 64 bits with its sign.
-fn within_64_bits(text: &str) -> Numeral
+fn signed_number(text: &str) -> Numeral
     requires { spec.is_digits (spec.unsigned text.now) ≡ true }
-    ensures { result ≡ spec.within_64_bits (begins_with 45 text.now) (digits_value 10 (spec.unsigned text.now)) }
+    ensures { result ≡ spec.signed_number text.now }
 {
     match text.parse::<i64>() {
         Ok(number) => Numeral::Whole(number),
@@ -123,7 +121,7 @@ fn whole_number(text: &str) -> Numeral
     if begins_with(digits, b'0') {
         return Numeral::Refused;
     }
-    within_64_bits(text)
+    signed_number(text)
 }
 
 /// The number that a plain scalar is.

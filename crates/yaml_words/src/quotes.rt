@@ -1,5 +1,5 @@
 //! Texts in quotes.
-ghost use Rattle.std.specs.Prelude.{◌≡◌, ◌<◌, ◌≤◌, ◌∷◌, [], length, MatchOption, IfSome, IfOk};
+ghost use Rattle.std.specs.Prelude.{◌≡◌, ◌<◌, ◌≤◌, ◌∷◌, [], length, IfNone, IfSome, IfOk};
 ghost use Rattle.yaml_words.specs.Faults.{GivesYaml};
 ghost use Rattle.yaml_words.specs.Places as bytes;
 ghost use Rattle.yaml_words.specs.Quotes as spec;
@@ -66,7 +66,7 @@ impl QuoteKind {
 
 /// The plain bytes at the front of a text in quotes, and the rest.
 fn piece(quote: QuoteKind, text: &str) -> (&str, &str)
-    ensures parts { spec.quoted quote text.now ≡ spec.with_text result.0.now (spec.quoted quote result.1.now) }
+    ensures parts { spec.ReadsOn quote text.now result.0.now result.1.now }
     ensures ends { bytes.place (Delimiter.Special quote) result.1.now ≡ 0 }
     ensures shorter { length result.1.now ≤ length text.now }
 {
@@ -76,7 +76,8 @@ fn piece(quote: QuoteKind, text: &str) -> (&str, &str)
 /// What the escape stands for that begins a rest of a text in quotes, and what stands after it.
 fn escape(quote: QuoteKind, text: &str) -> Option<(char, &str)>
     requires { bytes.place (Delimiter.Special quote) text.now ≡ 0 }
-    ensures parts { MatchOption result (spec.quoted quote text.now ≡ spec.closed quote text.now) (λ x. spec.quoted quote text.now ≡ spec.with_text (x.0 ∷ []) (spec.quoted quote x.1.now)) }
+    ensures parts { IfSome result (λ x. spec.ReadsOn quote text.now (x.0 ∷ []) x.1.now) }
+    ensures none { IfNone result (spec.quoted quote text.now ≡ spec.closed quote text.now) }
     ensures shorter { IfSome result (λ x. (length x.1.now < length text.now) × (x.0 < 128)) }
 {
     let after = after_byte(text, quote.escape_byte())?;

@@ -1,6 +1,6 @@
 //! Spaces and comments.
-ghost use Rattle.std.specs.Prelude.{◌≡◌, ◌<◌, ◌≤◌, true, false, length, drop, slice_index, MatchOption, IfSome};
-ghost use Rattle.yaml_words.specs.Places.{begins_with};
+ghost use Rattle.std.specs.Prelude.{◌≡◌, ◌<◌, ◌≤◌, true, false, length, drop, slice_index, IfNone, IfSome};
+ghost use Rattle.yaml_words.specs.Places.{begins_with, IsAfterByte};
 ghost use Rattle.yaml_words.specs.Spaces as spec;
 
 use crate::places::{Delimiter, begins_with, place};
@@ -61,7 +61,8 @@ pub fn without_first(text: &str) -> &str
 /// What stands after this byte, where the text begins with it.
 pub fn after_byte(text: &str, byte: u8) -> Option<&str>
     requires { byte < 128 }
-    ensures value { MatchOption result (begins_with byte text.now ≡ false) (λ rest. (begins_with byte text.now ≡ true) × (rest.now ≡ drop 1 text.now)) }
+    ensures value { IfSome result (λ rest. IsAfterByte byte text.now rest.now) }
+    ensures none { IfNone result (begins_with byte text.now ≡ false) }
     ensures shorter { IfSome result (λ rest. length rest.now < length text.now) }
 {
     if begins_with(text.as_bytes(), byte) {

@@ -26,7 +26,7 @@ items-preserved c =
       search rules,
       omega (arith, count, c.after_item-after.ensures.within, c.in-Some-after_byte.ensures.shorter, c.after_spaces-rest.ensures.within),
       list_goes_on (length c.args.text.now - length c.push.new.self) (length c.args.text.now - length c.items.items) c.args.line c.items.items _ c.items.rest.now _ _ _ c.in_ok-found.found _
-          c.items.invariant.2 levels c.in_ok-found.ensures c.after_item-after.ensures.value c.in_ok-push.ensures.ok c.in_default.ensures.value c.in-Some-after_byte.ensures.value.0
+          c.items.invariant.2 levels c.in_ok-found.ensures c.after_item-after.ensures.value c.in_ok-push.ensures.ok c.in_default.ensures.none c.in-Some-after_byte.ensures.value.0
           c.in-Some-after_byte.ensures.value.1 c.after_spaces-rest.ensures.value (omega (arith, count)),
     )
 
@@ -35,4 +35,4 @@ returns-in-None c =
     let levels : length c.items.rest.now ≤ length c.args.text.now - length c.items.items = omega arith in
     failed c.refused.result _ _ _ c.refused.ensures
     (sym (list_breaks (length c.args.text.now - length c.items.items) c.args.line c.items.items _ c.items.rest.now _ c.in_ok-found.found _ c.items.invariant.2 levels
-    c.in_ok-found.ensures c.after_item-after.ensures.value c.in_ok-push.ensures.ok c.in_default.ensures.value c.in-None.ensures.value)) refl
+    c.in_ok-found.ensures c.after_item-after.ensures.value c.in_ok-push.ensures.ok c.in_default.ensures.none c.in-None.ensures.none)) refl
