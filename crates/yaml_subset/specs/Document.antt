@@ -30,20 +30,32 @@ read_lines number (line ∷ lines) =
     else if ends_or 35 (unindented line) then read_lines (number + 1) lines
     else onto_rows (record { number = number; width = length line; text = unindented line }) (read_lines (number + 1) lines)
 
+-- No public contract cites it. The lines of a text that are not passed over.
+abbrev pub text_lines : ℕ → List ℕ → List Row × Option ℕ
+text_lines number text = read_lines number (lines_of text)
+
 -- a first line `---` is passed over
 abbrev pub all_lines : ℕ → List (List ℕ) → List Row × Option ℕ
 all_lines first [] = ([], None)
 all_lines first (line ∷ lines) = if is_start line then read_lines (first + 1) lines else read_lines first (line ∷ lines)
+
+-- No public contract cites it. The lines of a whole text that are not passed over.
+abbrev pub all_text_lines : ℕ → List ℕ → List Row × Option ℕ
+all_text_lines first text = all_lines first (lines_of text)
 
 -- a text that begins with no item: a map, or one scalar
 abbrev pub by_key : Row → List Row → Option (List ℕ × List ℕ) → Result Yaml YamlFault
 by_key r rs None = if is_later_start r then refused r.number Unsupported else value_here most_levels r r.text rs
 by_key r rs (Some key) = block most_levels r rs
 
+-- that text, by its first line
+abbrev pub by_line : Row → List Row → Result Yaml YamlFault
+by_line r rs = by_key r rs (split_key r.text)
+
 -- one block, or one scalar
 abbrev pub document : ℕ → List Row → Result Yaml YamlFault
 document first [] = Ok (scalar_at first v.Null)
-document first (r ∷ rs) = if is_item r.text then block most_levels r rs else by_key r rs (split_key r.text)
+document first (r ∷ rs) = if is_item r.text then block most_levels r rs else by_line r rs
 
 -- the line that a tab indents comes after all that was read
 abbrev pub untabbed : Option ℕ → Yaml → Result Yaml YamlFault

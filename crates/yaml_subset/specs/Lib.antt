@@ -3,3 +3,4 @@ pub mod Laws
 pub mod Blocks
 pub mod Rows
 pub mod Keys
+pub mod Lines

@@ -2,8 +2,8 @@
 ghost use Rattle.std.specs.Prelude.{◌≡◌, [], ◌∷◌, ◌++◌, map, None, IfOk};
 ghost use Rattle.yaml_words.specs.Faults.{GivesYaml, FailsYaml};
 ghost use Rattle.yaml_words.specs.Keys as words;
-ghost use Rattle.yaml_subset.specs.Rows.{row, rows, column_of};
-ghost use Rattle.yaml_subset.specs.Rows as lines;
+ghost use Rattle.yaml_subset.specs.Rows.{row, rows};
+ghost use Rattle.yaml_subset.specs.Lines as lines;
 ghost use Rattle.yaml_subset.specs.Blocks as spec;
 
 use crate::keys::KeySet;
@@ -96,7 +96,7 @@ fn block_or_null<'s, 'a>(
     number: u32,
     own: &'s [Line<'a>],
 ) -> Result<Yaml, YamlFault>
-    ensures { GivesYaml result (spec.block_or_null (spec.block levels) number (rows own.entry.now)) }
+    ensures { GivesYaml result (lines.own_block levels number own.entry.now) }
 {
     match own.split_first() {
         None => Ok(scalar_at(number, Value::Null)),
@@ -113,7 +113,7 @@ fn item_value<'s, 'a>(
     text: &'a str,
     own: &'s [Line<'a>],
 ) -> Result<Yaml, YamlFault>
-    ensures { GivesYaml result (spec.item_value levels (spec.block levels) (row head.entry) text.entry.now (rows own.entry.now)) }
+    ensures { GivesYaml result (lines.value_of_item levels head.entry text.entry.now own.entry.now) }
 {
     if text.is_empty() {
         return block_or_null(alloc, levels, head.number, own);
@@ -143,7 +143,7 @@ fn item<'s, 'a>(
     head: Line<'a>,
     own: &'s [Line<'a>],
 ) -> Result<Yaml, YamlFault>
-    ensures { GivesYaml result (spec.item_of levels (spec.block levels) column (record { head = row head.entry; own = rows own.entry.now })) }
+    ensures { GivesYaml result (lines.item_at levels column head.entry own.entry.now) }
 {
     if head.column() != column {
         return Err(refused(head.number, YamlCause::Indent));
@@ -165,7 +165,7 @@ fn items<'s, 'a>(
     first: Line<'a>,
     rest: &'s [Line<'a>],
 ) -> Result<YamlItems, YamlFault>
-    ensures { GivesYaml result (spec.items_of levels (spec.block levels) (column_of (row first.entry)) [] (lines.entries (lines.begins_item (column_of (row first.entry))) (row first.entry) (rows rest.entry.now))) }
+    ensures { GivesYaml result (lines.items_from levels first.entry rest.entry.now) }
 {
     let column = first.column();
     let entries = entries(alloc, first, rest, false, column)?;
@@ -232,7 +232,7 @@ fn pair_value<'s, 'a>(
     text: &'a str,
     own: &'s [Line<'a>],
 ) -> Result<Yaml, YamlFault>
-    ensures { GivesYaml result (spec.pair_value levels (spec.block levels) (row head.entry) text.entry.now (rows own.entry.now)) }
+    ensures { GivesYaml result (lines.value_of_pair levels head.entry text.entry.now own.entry.now) }
 {
     if text.is_empty() {
         return block_or_null(alloc, levels, head.number, own);
@@ -250,7 +250,7 @@ fn pair_under<'s, 'a>(
     own: &'s [Line<'a>],
     key: Text,
 ) -> Result<YamlPair, YamlFault>
-    ensures { GivesYaml result (spec.pair_under levels (spec.block levels) twice (record { head = row head.entry; own = rows own.entry.now }) key) }
+    ensures { GivesYaml result (lines.pair_below levels twice head.entry own.entry.now key) }
 {
     if twice {
         return Err(refused(head.number, YamlCause::KeyTwice));
@@ -276,7 +276,7 @@ fn pair<'s, 'a>(
     head: Line<'a>,
     own: &'s [Line<'a>],
 ) -> Result<YamlPair, YamlFault>
-    ensures ok { GivesYaml result (spec.pair_of levels (spec.block levels) column keys.old (record { head = row head.entry; own = rows own.entry.now })) }
+    ensures ok { GivesYaml result (lines.pair_at levels column keys.old head.entry own.entry.now) }
     ensures keys { IfOk result (λ pair. keys.new ≡ keys.old ++ pair.key ∷ []) }
 {
     let key = key_of(alloc, column, &head)?;
@@ -292,7 +292,7 @@ fn pairs<'s, 'a>(
     first: Line<'a>,
     rest: &'s [Line<'a>],
 ) -> Result<YamlPairs, YamlFault>
-    ensures { GivesYaml result (spec.pairs_of levels (spec.block levels) (column_of (row first.entry)) [] (lines.entries (lines.begins_pair (column_of (row first.entry))) (row first.entry) (rows rest.entry.now))) }
+    ensures { GivesYaml result (lines.pairs_from levels first.entry rest.entry.now) }
 {
     let column = first.column();
     let entries = entries(alloc, first, rest, true, column)?;
@@ -313,7 +313,7 @@ fn block_of<'s, 'a>(
     first: Line<'a>,
     rest: &'s [Line<'a>],
 ) -> Result<Yaml, YamlFault>
-    ensures { GivesYaml result (spec.block_of levels (spec.block levels) (row first.entry) (rows rest.entry.now)) }
+    ensures { GivesYaml result (lines.block_from levels first.entry rest.entry.now) }
 {
     let line = first.number;
     if is_item(first.text) {

@@ -1,9 +1,7 @@
 //! Laws: what follows from the definitions.
-ghost use Rattle.std.specs.Prelude.{◌≡◌, ◌≤◌, ℕ, length, Err};
-ghost use Rattle.yaml_subset.specs.Document.{lines_of, reading};
-ghost use Rattle.yaml_words.specs.declared.fault.YamlCause.{YamlCause};
-ghost use Rattle.yaml_words.specs.declared.fault.YamlFault.TheVariants.{Line};
-ghost use Rattle.yaml_subset.specs.Laws.{BreaksAt};
+ghost use Rattle.std.specs.Prelude.{◌≤◌, ℕ, length};
+ghost use Rattle.yaml_subset.specs.Document.{lines_of};
+ghost use Rattle.yaml_subset.specs.Laws.{EachFaultBreaks};
 
 /// A text has at most as many lines as bytes. So a caller that knows how long a text is knows that its lines can be numbered.
 pub fn lines_are_numbered(text: &str)
@@ -13,5 +11,5 @@ pub fn lines_are_numbered(text: &str)
 /// A fault is told with the number of one of the text's lines: those before it are read, and with it they have that fault, whatever lines
 /// follow.
 pub fn faults_break_at_their_line(text: &str)
-    ensures { (first n : ℕ) (cause : YamlCause) → reading first text.now ≡ Err (Line n cause) → BreaksAt first (lines_of text.now) n cause }
+    ensures { (first : ℕ) → EachFaultBreaks first text.now }
 {}

@@ -29,7 +29,7 @@ fn read_lines<'a>(
     text: &'a str,
 ) -> Result<(Vec<Line<'a>>, Option<u32>), AllocError>
     requires { first + length (lines_of text.now) < 2 ^ 32 }
-    ensures { IfOk result (λ x. spec.read_lines first (lines_of text.entry.now) ≡ (rows x.0.items, x.1)) }
+    ensures { IfOk result (λ x. spec.text_lines first text.entry.now ≡ (rows x.0.items, x.1)) }
 {
     let mut found = Vec::new(alloc);
     let mut number = first;
@@ -60,7 +60,7 @@ pub fn all_lines<'a>(
     text: &'a str,
 ) -> Result<(Vec<Line<'a>>, Option<u32>), AllocError>
     requires { first + length (lines_of text.now) < 2 ^ 32 }
-    ensures { IfOk result (λ x. spec.all_lines first (lines_of text.entry.now) ≡ (rows x.0.items, x.1)) }
+    ensures { IfOk result (λ x. spec.all_text_lines first text.entry.now ≡ (rows x.0.items, x.1)) }
 {
     if text.is_empty() {
         return Ok((Vec::new(alloc), None));

@@ -1,7 +1,6 @@
 //! Whole texts.
 ghost use Rattle.std.specs.Prelude.{◌≡◌, ◌<◌, ◌+◌, ◌^◌, length, IfOk};
 ghost use Rattle.yaml_words.specs.Faults.{GivesYaml};
-ghost use Rattle.yaml_words.specs.Keys as words;
 ghost use Rattle.yaml_subset.specs.Rows.{row, rows};
 ghost use Rattle.yaml_subset.specs.Document as spec;
 ghost use Rattle.yaml_subset.specs.Document.{lines_of};
@@ -16,7 +15,7 @@ use yaml_words::{YamlCause, YamlFault, is_item, refused, split_key};
 
 /// A text that begins with a line that is no item.
 fn by_key(alloc: Global, head: Line<'_>, rest: &[Line<'_>]) -> Result<Yaml, YamlFault>
-    ensures { GivesYaml result (spec.by_key (row head.entry) (rows rest.now) (words.split_key head.entry.text.now)) }
+    ensures { GivesYaml result (spec.by_line (row head.entry) (rows rest.now)) }
 {
     match split_key(head.text) {
         None => {

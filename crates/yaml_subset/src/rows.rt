@@ -1,7 +1,8 @@
 //! Lines, and the entries of a block.
-ghost use Rattle.std.specs.Prelude.{◌≡◌, ◌≤◌, ◌<◌, ◌-◌, ◌∷◌, length, drop, map, position, IfSome, IfOk};
+ghost use Rattle.std.specs.Prelude.{◌≡◌, ◌≤◌, ◌<◌, ◌-◌, length, drop, position, IfSome, IfOk};
+ghost use Rattle.yaml_subset.specs.Lines.{CutsEntry, AreEntries};
 ghost use Rattle.yaml_subset.specs.Rows as spec;
-ghost use Rattle.yaml_subset.specs.Rows.{Row, row, rows, column_of, further};
+ghost use Rattle.yaml_subset.specs.Rows.{row, column_of};
 
 use std::alloc::{AllocError, Global};
 use yaml_words::{after_spaces, ends_or, is_item};
@@ -72,7 +73,7 @@ fn own_lines<'s, 'a>(
     of_map: bool,
     column: usize,
 ) -> (&'s [Line<'a>], &'s [Line<'a>])
-    ensures first { (head : Row) → spec.entries (spec.begins of_map column) head (rows rest.now) ≡ record { head = head; own = rows result.0.now } ∷ further (spec.begins of_map column) (rows result.1.now) }
+    ensures first { CutsEntry of_map column rest.now result.0.now result.1.now }
     ensures tail { result.1.now ≡ drop (length rest.now - length result.1.now) rest.now }
     ensures within { length result.1.now ≤ length rest.now }
 {
@@ -90,7 +91,7 @@ pub fn entries<'s, 'a>(
     of_map: bool,
     column: usize,
 ) -> Result<Vec<Entry<'s, 'a>>, AllocError>
-    ensures { IfOk result (λ found. map spec.entry found.items ≡ spec.entries (spec.begins of_map column) (row first.entry) (rows rest.entry.now)) }
+    ensures { IfOk result (λ found. AreEntries of_map column first.entry rest.entry.now found.items) }
 {
     let mut found = Vec::new(alloc);
     let mut head = first;

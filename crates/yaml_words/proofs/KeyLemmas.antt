@@ -1,6 +1,6 @@
 -- Where a key ends.
 use Rattle.std.proofs.Common.{◌≡◌, ℕ, suc, ◌+◌, ◌-◌, ◌<◌, ◌≤◌, Bool, true, false, List, [], ◌∷◌, take, drop, length, get_or, refl, sym, ap, ◌∙◌, arith, length-drop}
-use Rattle.std.specs.Prelude.{◌==◌, ◌&&◌, Option, None, Some, IfSome, slice_index}
+use Rattle.std.specs.Prelude.{◌==◌, ◌&&◌, Option, None, Some, IfSome}
 use Rattle.std.proofs.lemmas.Bool.{eqb-true}
 use Rattle.std.proofs.lemmas.List.{get_or-drop, get_or-take, drop_all, length-take}
 use Rattle.yaml_words.specs.declared.places.Delimiter.TheVariants.{KeyEnd, Comment}
