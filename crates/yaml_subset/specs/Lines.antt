@@ -26,8 +26,8 @@ abbrev pub own_block : ℕ → ℕ → List Line → Result Yaml YamlFault
 own_block levels number own = block_or_null (block levels) number (rows own)
 
 -- No public contract cites it. What stands after an item's mark.
-abbrev pub value_of_item : ℕ → Line → List ℕ → List Line → Result Yaml YamlFault
-value_of_item levels head text own = item_value levels (block levels) (row head) text (rows own)
+abbrev pub item_rest : ℕ → Line → List ℕ → List Line → Result Yaml YamlFault
+item_rest levels head text own = item_value levels (block levels) (row head) text (rows own)
 
 -- No public contract cites it. An item of these lines.
 abbrev pub item_at : ℕ → ℕ → Line → List Line → Result Yaml YamlFault
@@ -39,8 +39,8 @@ items_from levels first rest =
     items_of levels (block levels) (column_of (row first)) [] (entries (begins_item (column_of (row first))) (row first) (rows rest))
 
 -- No public contract cites it. What stands after a key.
-abbrev pub value_of_pair : ℕ → Line → List ℕ → List Line → Result Yaml YamlFault
-value_of_pair levels head text own = pair_value levels (block levels) (row head) text (rows own)
+abbrev pub pair_rest : ℕ → Line → List ℕ → List Line → Result Yaml YamlFault
+pair_rest levels head text own = pair_value levels (block levels) (row head) text (rows own)
 
 -- No public contract cites it. The pair of a key of these lines.
 abbrev pub pair_below : ℕ → Bool → Line → List Line → List ℕ → Result YamlPair YamlFault

@@ -113,7 +113,7 @@ fn item_value<'s, 'a>(
     text: &'a str,
     own: &'s [Line<'a>],
 ) -> Result<Yaml, YamlFault>
-    ensures { GivesYaml result (lines.value_of_item levels head.entry text.entry.now own.entry.now) }
+    ensures { GivesYaml result (lines.item_rest levels head.entry text.entry.now own.entry.now) }
 {
     if text.is_empty() {
         return block_or_null(alloc, levels, head.number, own);
@@ -232,7 +232,7 @@ fn pair_value<'s, 'a>(
     text: &'a str,
     own: &'s [Line<'a>],
 ) -> Result<Yaml, YamlFault>
-    ensures { GivesYaml result (lines.value_of_pair levels head.entry text.entry.now own.entry.now) }
+    ensures { GivesYaml result (lines.pair_rest levels head.entry text.entry.now own.entry.now) }
 {
     if text.is_empty() {
         return block_or_null(alloc, levels, head.number, own);

@@ -91,7 +91,7 @@ pub fn entries<'s, 'a>(
     of_map: bool,
     column: usize,
 ) -> Result<Vec<Entry<'s, 'a>>, AllocError>
-    ensures { IfOk result (λ found. AreEntries of_map column first.entry rest.entry.now found.items) }
+    ensures { IfOk result (λ x. AreEntries of_map column first.entry rest.entry.now x.items) }
 {
     let mut found = Vec::new(alloc);
     let mut head = first;
