@@ -13,19 +13,19 @@ use Rattle.yaml_words.specs.Spaces.{unindented}
 use Rattle.yaml_words.specs.Keys.{is_item, split_key}
 use Rattle.yaml_words.proofs.FaultLines.{on_ok, on_refused, on_if, on_step}
 use Rattle.yaml_subset.specs.declared.tree.Yaml.{Yaml}
-use Rattle.yaml_subset.specs.Rows.{Row, is_start}
-use Rattle.yaml_subset.specs.Blocks.{is_later_start, most_levels, inline, closed}
-use Rattle.yaml_subset.specs.Document.{read_lines, onto_rows, all_lines, by_key, document, untabbed, numbered, tree_of, lines_tree}
+use Rattle.yaml_subset.specs.Rows.{IndentedLine, is_document_start}
+use Rattle.yaml_subset.specs.Blocks.{is_later_start, most_yaml_levels, inline, closed}
+use Rattle.yaml_subset.specs.Document.{read_lines, onto_rows, all_lines, by_key, document, untabbed, numbered, kept_tree, lines_tree}
 use Rattle.yaml_subset.specs.Laws.{BreaksAt}
 use Rattle.yaml_subset.proofs.OneRowMore.{IsStep, step_same, step_if, step_after, step_total, block_lines, on_inline, value_here_step}
 
 -- what a line more adds to the lines that are not passed over
-data IsFound (k : ℕ) (old new : List Row × Option ℕ) : Type 0 where
+data IsFound (k : ℕ) (old new : List IndentedLine × Option ℕ) : Type 0 where
   same : new ≡ old → IsFound k old new
   tab : old.1 ≡ None → new ≡ (old.0, Some k) → IsFound k old new
-  row : (r : Row) → r.number ≡ k → old.1 ≡ None → new ≡ (old.0 ++ r ∷ [], None) → IsFound k old new
+  row : (r : IndentedLine) → r.number ≡ k → old.1 ≡ None → new ≡ (old.0 ++ r ∷ [], None) → IsFound k old new
 
-found_onto : (k : ℕ) (r : Row) (old new : List Row × Option ℕ) → IsFound k old new → IsFound k (onto_rows r old) (onto_rows r new)
+found_onto : (k : ℕ) (r : IndentedLine) (old new : List IndentedLine × Option ℕ) → IsFound k old new → IsFound k (onto_rows r old) (onto_rows r new)
 found_onto k r old new (same e) = same (ap (onto_rows r) e)
 found_onto k r old new (tab n e) = tab n (ap (onto_rows r) e)
 found_onto k r old new (row x number n e) = row x number n (ap (onto_rows r) e)
@@ -46,47 +46,47 @@ read_more k number [] l e = one_line k number l (begins_with 9 (unindented l)) (
 read_more k number (line ∷ lines) l e =
     line_before k number line lines l (begins_with 9 (unindented line)) (ends_or 35 (unindented line)) refl refl (read_more k (number + 1) lines l (omega (arith, e)))
 
-start_alone : (k first : ℕ) (l : List ℕ) (starts : Bool) → is_start l ≡ starts → k ≡ first → IsFound k (all_lines first []) (all_lines first (l ∷ []))
+start_alone : (k first : ℕ) (l : List ℕ) (starts : Bool) → is_document_start l ≡ starts → k ≡ first → IsFound k (all_lines first []) (all_lines first (l ∷ []))
 start_alone k first l true s e = same (rw s refl)
 start_alone k first l false s e = rw s (read_more k first [] l (omega (arith, e)))
 
-start_before : (k first : ℕ) (line : List ℕ) (lines : List (List ℕ)) (l : List ℕ) (starts : Bool) → is_start line ≡ starts → k ≡ first + length (line ∷ lines)
+start_before : (k first : ℕ) (line : List ℕ) (lines : List (List ℕ)) (l : List ℕ) (starts : Bool) → is_document_start line ≡ starts → k ≡ first + length (line ∷ lines)
     → IsFound k (all_lines first (line ∷ lines)) (all_lines first (line ∷ lines ++ l ∷ []))
 start_before k first line lines l true s e = rw s (read_more k (first + 1) lines l (omega (arith, e)))
 start_before k first line lines l false s e = rw s (read_more k first (line ∷ lines) l e)
 
 all_more : (k first : ℕ) (lines : List (List ℕ)) (l : List ℕ) → k ≡ first + length lines → IsFound k (all_lines first lines) (all_lines first (lines ++ l ∷ []))
-all_more k first [] l e = start_alone k first l (is_start l) refl (omega (arith, e))
-all_more k first (line ∷ lines) l e = start_before k first line lines l (is_start line) refl e
+all_more k first [] l e = start_alone k first l (is_document_start l) refl (omega (arith, e))
+all_more k first (line ∷ lines) l e = start_before k first line lines l (is_document_start line) refl e
 
-on_by_key : (r : Row) (key : Option (List ℕ × List ℕ)) → IsOnLine r.number (by_key r [] key)
+on_by_key : (r : IndentedLine) (key : Option (List ℕ × List ℕ)) → IsOnLine r.number (by_key r [] key)
 on_by_key r None =
     on_if r.number (is_later_start r) _ _ (on_refused r.number Unsupported)
-    (on_step r.number (inline most_levels r.number r.text) (closed []) (on_inline most_levels r.number r.text) (λ x. on_ok r.number x))
-on_by_key r (Some key) = (block_lines most_levels).single r
+    (on_step r.number (inline most_yaml_levels r.number r.text) (closed []) (on_inline most_yaml_levels r.number r.text) (λ x. on_ok r.number x))
+on_by_key r (Some key) = (block_lines most_yaml_levels).single r
 
-by_key_step : (x : Row) (xs : List Row) (r : Row) (key : Option (List ℕ × List ℕ)) → IsStep r.number (by_key x xs key) (by_key x (xs ++ r ∷ []) key)
+by_key_step : (x : IndentedLine) (xs : List IndentedLine) (r : IndentedLine) (key : Option (List ℕ × List ℕ)) → IsStep r.number (by_key x xs key) (by_key x (xs ++ r ∷ []) key)
 by_key_step x xs r None =
-    step_if r.number (is_later_start x) _ _ _ _ (step_same r.number (refused {A = Yaml} x.number Unsupported)) (value_here_step most_levels x x.text xs r)
-by_key_step x xs r (Some key) = (block_lines most_levels).step x xs r
+    step_if r.number (is_later_start x) _ _ _ _ (step_same r.number (refused {A = Yaml} x.number Unsupported)) (value_here_step most_yaml_levels x x.text xs r)
+by_key_step x xs r (Some key) = (block_lines most_yaml_levels).step x xs r
 
-document_step : (first : ℕ) (rs : List Row) (r : Row) → IsStep r.number (document first rs) (document first (rs ++ r ∷ []))
-document_step first [] r = on_if r.number (is_item r.text) _ _ ((block_lines most_levels).single r) (on_by_key r (split_key r.text))
+document_step : (first : ℕ) (rs : List IndentedLine) (r : IndentedLine) → IsStep r.number (document first rs) (document first (rs ++ r ∷ []))
+document_step first [] r = on_if r.number (is_item r.text) _ _ ((block_lines most_yaml_levels).single r) (on_by_key r (split_key r.text))
 document_step first (x ∷ xs) r =
-    step_if r.number (is_item x.text) _ _ _ _ ((block_lines most_levels).step x xs r) (by_key_step x xs r (split_key x.text))
+    step_if r.number (is_item x.text) _ _ _ _ ((block_lines most_yaml_levels).step x xs r) (by_key_step x xs r (split_key x.text))
 
-tab_step : (first k : ℕ) (rs : List Row) → IsStep k (tree_of first (rs, None)) (tree_of first (rs, Some k))
+tab_step : (first k : ℕ) (rs : List IndentedLine) → IsStep k (kept_tree first (rs, None)) (kept_tree first (rs, Some k))
 tab_step first k rs =
     step_total k (document first rs >>= untabbed None) (document first rs >>= untabbed (Some k)) (λ tree. record { line = first; node = tree.node }) (numbered first)
     (step_after k (document first rs) (untabbed None) (untabbed (Some k)) (λ tree. on_refused k Tab)) (λ tree. on_ok k _)
 
-row_step : (first : ℕ) (rs : List Row) (r : Row) → IsStep r.number (tree_of first (rs, None)) (tree_of first (rs ++ r ∷ [], None))
+row_step : (first : ℕ) (rs : List IndentedLine) (r : IndentedLine) → IsStep r.number (kept_tree first (rs, None)) (kept_tree first (rs ++ r ∷ [], None))
 row_step first rs r =
     step_total r.number (document first rs >>= untabbed None) (document first (rs ++ r ∷ []) >>= untabbed None) (λ tree. record { line = first; node = tree.node }) (numbered first)
     (step_total r.number (document first rs) (document first (rs ++ r ∷ [])) (λ tree. tree) (untabbed None) (document_step first rs r) (λ tree. on_ok r.number tree)) (λ tree. on_ok r.number _)
 
-found_step : (first k : ℕ) (old new : List Row × Option ℕ) → IsFound k old new → IsStep k (tree_of first old) (tree_of first new)
-found_step first k old new (same e) = rw e (step_same k (tree_of first old))
+found_step : (first k : ℕ) (old new : List IndentedLine × Option ℕ) → IsFound k old new → IsStep k (kept_tree first old) (kept_tree first new)
+found_step first k old new (same e) = rw e (step_same k (kept_tree first old))
 found_step first k old new (tab n e) = rw (e, n) (tab_step first k old.0)
 found_step first k old new (row r number n e) = rw (e, n, ← number) (row_step first old.0 r)
 

@@ -2,7 +2,7 @@
 ghost use Rattle.std.specs.Prelude.{◌≡◌, [], ◌∷◌, ◌++◌, map, None, IfOk};
 ghost use Rattle.yaml_words.specs.Faults.{GivesYaml, FailsYaml};
 ghost use Rattle.yaml_words.specs.Keys as words;
-ghost use Rattle.yaml_subset.specs.Rows.{row, rows};
+ghost use Rattle.yaml_subset.specs.Rows.{indented_line, indented_lines};
 ghost use Rattle.yaml_subset.specs.Lines as lines;
 ghost use Rattle.yaml_subset.specs.Blocks as spec;
 
@@ -21,7 +21,7 @@ use yaml_words::{
 pub const MOST_LEVELS: usize = 32;
 
 fn scalar_at(line: u32, value: Value) -> Yaml
-    ensures { result ≡ spec.scalar_at line value }
+    ensures { result ≡ spec.scalar_on_line line value }
 {
     Yaml {
         line,
@@ -31,7 +31,7 @@ fn scalar_at(line: u32, value: Value) -> Yaml
 
 /// The items of a list that stands on one line.
 fn items_at(alloc: Global, line: u32, values: Items<Value>) -> Result<YamlItems, AllocError>
-    ensures { IfOk result (λ items. items ≡ map (spec.scalar_at line) values) }
+    ensures { IfOk result (λ items. items ≡ map (spec.scalar_on_line line) values) }
 {
     let mut left = values;
     let mut items = Vec::new(alloc);
@@ -44,7 +44,7 @@ fn items_at(alloc: Global, line: u32, values: Items<Value>) -> Result<YamlItems,
 
 /// What stands on one line, as a tree whose parts have that line.
 fn node_at(alloc: Global, line: u32, node: FlowNode) -> Result<YamlNode, AllocError>
-    ensures { IfOk result (λ tree. tree ≡ spec.node_at line node) }
+    ensures { IfOk result (λ tree. tree ≡ spec.node_on_line line node) }
 {
     match node {
         FlowNode::Scalar(value) => Ok(YamlNode::Scalar(value)),
@@ -66,7 +66,7 @@ fn inline(alloc: Global, levels: usize, line: u32, text: &str) -> Result<Yaml, Y
 
 /// A value, after which no line of its own may follow.
 fn closed(value: Yaml, own: &[Line<'_>]) -> Result<Yaml, YamlFault>
-    ensures { GivesYaml result (spec.closed (rows own.now) value) }
+    ensures { GivesYaml result (spec.closed (indented_lines own.now) value) }
 {
     match own.first() {
         None => Ok(value),
@@ -82,7 +82,7 @@ pub fn value_here<'a>(
     text: &'a str,
     own: &[Line<'a>],
 ) -> Result<Yaml, YamlFault>
-    ensures { GivesYaml result (spec.value_here levels (row head.entry) text.now (rows own.now)) }
+    ensures { GivesYaml result (lines.value_on levels head.entry text.now own.now) }
 {
     let value = inline(alloc, levels, head.number, text)?;
     closed(value, own)
@@ -143,7 +143,7 @@ fn item<'s, 'a>(
     head: Line<'a>,
     own: &'s [Line<'a>],
 ) -> Result<Yaml, YamlFault>
-    ensures { GivesYaml result (lines.item_at levels column head.entry own.entry.now) }
+    ensures { GivesYaml result (lines.item_on levels column head.entry own.entry.now) }
 {
     if head.column() != column {
         return Err(refused(head.number, YamlCause::Indent));
@@ -179,7 +179,7 @@ fn items<'s, 'a>(
 
 /// Whether the line is `---` at the first column, which may stand on a text's first line alone.
 pub fn is_later_start(line: &Line<'_>) -> bool
-    ensures { result ≡ spec.is_later_start (row line.now) }
+    ensures { result ≡ spec.is_later_start (indented_line line.now) }
 {
     if line.column() != 0 {
         return false;
@@ -189,7 +189,7 @@ pub fn is_later_start(line: &Line<'_>) -> bool
 
 /// Why a line without a key can't stand where a key is due.
 fn no_key(alloc: Global, head: &Line<'_>) -> YamlFault
-    ensures { FailsYaml result (spec.key_or_fault (row head.now) None) }
+    ensures { FailsYaml result (spec.key_or_fault (indented_line head.now) None) }
 {
     if is_later_start(head) {
         return refused(head.number, YamlCause::Unsupported);
@@ -202,7 +202,7 @@ fn no_key(alloc: Global, head: &Line<'_>) -> YamlFault
 
 /// The key of a pair of a map at this column.
 fn key_of(alloc: Global, column: usize, head: &Line<'_>) -> Result<Text, YamlFault>
-    ensures { GivesYaml result (spec.key_of column (row head.now)) }
+    ensures { GivesYaml result (spec.key_of column (indented_line head.now)) }
 {
     if head.column() != column {
         return Err(refused(head.number, YamlCause::Indent));
@@ -276,7 +276,7 @@ fn pair<'s, 'a>(
     head: Line<'a>,
     own: &'s [Line<'a>],
 ) -> Result<YamlPair, YamlFault>
-    ensures ok { GivesYaml result (lines.pair_at levels column keys.old head.entry own.entry.now) }
+    ensures ok { GivesYaml result (lines.pair_on levels column keys.old head.entry own.entry.now) }
     ensures keys { IfOk result (λ pair. keys.new ≡ keys.old ++ pair.key ∷ []) }
 {
     let key = key_of(alloc, column, &head)?;
@@ -339,7 +339,7 @@ pub fn block<'s, 'a>(
     first: Line<'a>,
     rest: &'s [Line<'a>],
 ) -> Result<Yaml, YamlFault>
-    ensures { GivesYaml result (spec.block levels (row first.entry) (rows rest.entry.now)) }
+    ensures { GivesYaml result (lines.block_on levels first.entry rest.entry.now) }
 {
     if levels == 0 {
         return Err(refused(first.number, YamlCause::TooDeep));

@@ -1,7 +1,6 @@
 //! The lines of a text.
 ghost use Rattle.std.specs.Prelude.{◌≡◌, ◌<◌, ◌+◌, ◌^◌, ◌∷◌, length, IfOk};
-ghost use Rattle.yaml_subset.specs.Rows.{rows};
-ghost use Rattle.yaml_subset.specs.Document as spec;
+ghost use Rattle.yaml_subset.specs.Lines.{KeepsLines, KeepsAllLines};
 ghost use Rattle.yaml_subset.specs.Document.{lines_of};
 
 use crate::rows::{Line, is_start};
@@ -29,7 +28,7 @@ fn read_lines<'a>(
     text: &'a str,
 ) -> Result<(Vec<Line<'a>>, Option<u32>), AllocError>
     requires { first + length (lines_of text.now) < 2 ^ 32 }
-    ensures { IfOk result (λ x. spec.text_lines first text.entry.now ≡ (rows x.0.items, x.1)) }
+    ensures { IfOk result (λ x. KeepsLines first text.entry.now x.0.items x.1) }
 {
     let mut found = Vec::new(alloc);
     let mut number = first;
@@ -60,7 +59,7 @@ pub fn all_lines<'a>(
     text: &'a str,
 ) -> Result<(Vec<Line<'a>>, Option<u32>), AllocError>
     requires { first + length (lines_of text.now) < 2 ^ 32 }
-    ensures { IfOk result (λ x. spec.all_text_lines first text.entry.now ≡ (rows x.0.items, x.1)) }
+    ensures { IfOk result (λ x. KeepsAllLines first text.entry.now x.0.items x.1) }
 {
     if text.is_empty() {
         return Ok((Vec::new(alloc), None));

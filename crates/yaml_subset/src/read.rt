@@ -1,7 +1,7 @@
 //! Whole texts.
 ghost use Rattle.std.specs.Prelude.{◌≡◌, ◌<◌, ◌+◌, ◌^◌, length, IfOk};
 ghost use Rattle.yaml_words.specs.Faults.{GivesYaml};
-ghost use Rattle.yaml_subset.specs.Rows.{row, rows};
+ghost use Rattle.yaml_subset.specs.Rows.{indented_line, indented_lines};
 ghost use Rattle.yaml_subset.specs.Document as spec;
 ghost use Rattle.yaml_subset.specs.Document.{lines_of};
 
@@ -15,7 +15,7 @@ use yaml_words::{YamlCause, YamlFault, is_item, refused, split_key};
 
 /// A text that begins with a line that is no item.
 fn by_key(alloc: Global, head: Line<'_>, rest: &[Line<'_>]) -> Result<Yaml, YamlFault>
-    ensures { GivesYaml result (spec.by_line (row head.entry) (rows rest.now)) }
+    ensures { GivesYaml result (spec.by_line (indented_line head.entry) (indented_lines rest.now)) }
 {
     match split_key(head.text) {
         None => {
@@ -29,7 +29,7 @@ fn by_key(alloc: Global, head: Line<'_>, rest: &[Line<'_>]) -> Result<Yaml, Yaml
 }
 
 fn document(alloc: Global, first: u32, lines: &[Line<'_>]) -> Result<Yaml, YamlFault>
-    ensures { GivesYaml result (spec.document first (rows lines.now)) }
+    ensures { GivesYaml result (spec.document first (indented_lines lines.now)) }
 {
     let Some((head, rest)) = lines.split_first() else {
         return Ok(Yaml {
@@ -50,7 +50,7 @@ fn tree_of(
     lines: &[Line<'_>],
     tab: Option<u32>,
 ) -> Result<Yaml, YamlFault>
-    ensures { GivesYaml result (spec.tree_of first (rows lines.now, tab)) }
+    ensures { GivesYaml result (spec.kept_tree first (indented_lines lines.now, tab)) }
 {
     let tree = document(alloc, first, lines)?;
     if let Some(number) = tab {
@@ -65,7 +65,7 @@ fn tree_of(
 /// Reads the tree that a text is, whose lines are numbered from `first` on. A fault is the first one of the first line that has one.
 pub fn read_yaml(alloc: Global, text: &str, first: u32) -> Result<Yaml, YamlFault>
     requires { first + length (lines_of text.now) < 2 ^ 32 }
-    ensures { GivesYaml result (spec.reading first text.now) }
+    ensures { GivesYaml result (spec.yaml_reading first text.now) }
 {
     let (lines, tab) = all_lines(alloc, first, text)?;
     tree_of(alloc, first, &lines, tab)

@@ -1,8 +1,8 @@
 //! Lines, and the entries of a block.
-ghost use Rattle.std.specs.Prelude.{◌≡◌, ◌≤◌, ◌<◌, ◌-◌, length, drop, position, IfSome, IfOk};
-ghost use Rattle.yaml_subset.specs.Lines.{CutsEntry, AreEntries};
+ghost use Rattle.std.specs.Prelude.{◌≡◌, ◌≤◌, ◌<◌, ◌-◌, length, drop, IfSome, IfOk};
+ghost use Rattle.yaml_subset.specs.Lines.{CutsEntry, AreEntries, entry_place};
 ghost use Rattle.yaml_subset.specs.Rows as spec;
-ghost use Rattle.yaml_subset.specs.Rows.{row, column_of};
+ghost use Rattle.yaml_subset.specs.Rows.{indented_line, column_of};
 
 use std::alloc::{AllocError, Global};
 use yaml_words::{after_spaces, ends_or, is_item};
@@ -20,7 +20,7 @@ pub struct Line<'a> {
 impl Line<'_> {
     /// The column at which its reading begins.
     pub fn column(&self) -> usize
-        ensures { result ≡ column_of (row self.now) }
+        ensures { result ≡ column_of (indented_line self.now) }
     {
         self.width.saturating_sub(self.text.len())
     }
@@ -35,7 +35,7 @@ pub struct Entry<'s, 'a> {
 
 /// Whether a line is `---`, with spaces and a comment or without.
 pub fn is_start(line: &str) -> bool
-    ensures { result ≡ spec.is_start line.now }
+    ensures { result ≡ spec.is_document_start line.now }
 {
     match line.strip_prefix("---") {
         None => false,
@@ -45,7 +45,7 @@ pub fn is_start(line: &str) -> bool
 
 /// Whether an entry of a list or a map at this column begins with the line.
 fn begins(of_map: bool, column: usize, line: &Line<'_>) -> bool
-    ensures { result ≡ spec.begins of_map column (row line.now) }
+    ensures { result ≡ spec.begins_entry of_map column (indented_line line.now) }
 {
     if line.column() > column {
         return false;
@@ -61,7 +61,7 @@ fn begins(of_map: bool, column: usize, line: &Line<'_>) -> bool
 
 /// The place of the first line that begins an entry, if there is one.
 fn head_place(rest: &[Line<'_>], of_map: bool, column: usize) -> Option<usize>
-    ensures place { result ≡ position (λ l. spec.begins of_map column (row l)) rest.now }
+    ensures place { result ≡ entry_place of_map column rest.now }
     ensures within { IfSome result (λ at. at < length rest.now) }
 {
     rest.iter().position(|line| begins(of_map, column, line))

@@ -19,9 +19,9 @@ use Rattle.yaml_words.specs.Spaces.{trimmed, after_spaces}
 use Rattle.yaml_words.specs.Quotes.{quoted_text, returnless, written, unquoted}
 use Rattle.yaml_words.specs.Numbers.{numeral}
 use Rattle.yaml_words.specs.Plain.{plain, by_numeral, plain_fault, plain_value, may_begin, text_fault}
-use Rattle.yaml_words.specs.Lists.{quoted_value, closed_text, item, item_size, after_item, closed_list, further, items, list_node}
+use Rattle.yaml_words.specs.Lists.{quoted_value, closed_text, item, item_size, after_item, closed_list, next_items, items, flow_list}
 use Rattle.yaml_words.specs.Keys.{key, quoted_key}
-use Rattle.yaml_words.specs.FlowNodes.{flow_node, quoted_node, plain_node, map_node, plain_part, scalar}
+use Rattle.yaml_words.specs.FlowNodes.{flow_node, quoted_node, plain_node, flow_map, plain_part, scalar}
 
 pub on_ok : {A : Type 0} (line : ℕ) (x : A) → IsOnLine {A = A} line (Ok x)
 on_ok line x = record { told = λ n cause e. absurd (let no : ⊥ = cc in no) }
@@ -72,7 +72,7 @@ on_closed_list : (line : ℕ) (values : List Value) (text : List ℕ) → IsOnLi
 on_closed_list line values text = on_if line (is_empty (after_spaces text)) _ _ (on_ok line _) (on_refused line Unsupported)
 
 on_further : (others : List Value → List ℕ → Result FlowNode YamlFault) (line : ℕ) (before : List Value) (text : List ℕ)
-    → ((values : List Value) (rest : List ℕ) → IsOnLine line (others values rest)) → IsOnLine line (further others line before text)
+    → ((values : List Value) (rest : List ℕ) → IsOnLine line (others values rest)) → IsOnLine line (next_items others line before text)
 on_further others line before text h =
     on_if line (begins_with 93 text) _ _ (on_closed_list line before (drop 1 text))
     (on_if line (begins_with 44 text) _ _ (h before (after_spaces (drop 1 text))) (on_refused line Unsupported))
@@ -81,10 +81,10 @@ on_items : (n line : ℕ) (before : List Value) (text : List ℕ) → IsOnLine l
 unfolding items
 on_items zero line before text = on_refused line Unsupported
 on_items (suc n) line before text =
-    on_step line (item line text) (λ value. further (items n line) line (before ++ value ∷ []) (after_item text)) (on_item line text)
+    on_step line (item line text) (λ value. next_items (items n line) line (before ++ value ∷ []) (after_item text)) (on_item line text)
     (λ value. on_further (items n line) line (before ++ value ∷ []) (after_item text) (on_items n line))
 
-on_list : (levels line : ℕ) (text : List ℕ) → IsOnLine line (list_node levels line text)
+on_list : (levels line : ℕ) (text : List ℕ) → IsOnLine line (flow_list levels line text)
 on_list levels line text =
     on_if line (is_empty text) _ _ (on_refused line Unsupported)
     (on_if line (begins_with 93 text) _ _ (on_closed_list line [] (drop 1 text))
@@ -99,7 +99,7 @@ on_quoted_node line quote text = on_step line _ scalar (on_quoted_value line quo
 on_plain_node : (line : ℕ) (text : List ℕ) → IsOnLine line (plain_node line text)
 on_plain_node line text = on_step line _ scalar (on_plain line (plain_part text)) (on_scalar line)
 
-on_map_node : (line : ℕ) (text : List ℕ) → IsOnLine line (map_node line text)
+on_map_node : (line : ℕ) (text : List ℕ) → IsOnLine line (flow_map line text)
 on_map_node line text = on_if line (begins_with 125 text && is_empty (after_spaces (drop 1 text))) _ _ (on_ok line _) (on_refused line Unsupported)
 
 -- each fault of what stands on one line

@@ -10,9 +10,9 @@ use Rattle.salt_value.specs.Readers.{◌>>=◌}
 use Rattle.yaml_words.specs.Faults.{refused, GivesYaml, FailsYaml}
 use Rattle.yaml_words.specs.Places.{begins_with}
 use Rattle.yaml_words.specs.Spaces.{after_spaces}
-use Rattle.yaml_words.specs.Lists.{items, item, after_item, further, closed_list}
+use Rattle.yaml_words.specs.Lists.{items, item, after_item, next_items, closed_list}
 
-one_step : (n line : ℕ) (before : List Value) (text : List ℕ) → items (suc n) line before text ≡ (item line text >>= λ value. further (items n line) line (before ++ value ∷ []) (after_item text))
+one_step : (n line : ℕ) (before : List Value) (text : List ℕ) → items (suc n) line before text ≡ (item line text >>= λ value. next_items (items n line) line (before ++ value ∷ []) (after_item text))
 unfolding items
 one_step n line before text = refl
 
@@ -31,7 +31,7 @@ items_fault (suc n) line before text f h e = one_step n line before text ∙ rw 
 
 -- an item that is read
 pub items_value : (n line : ℕ) (before : List Value) (text : List ℕ) (value : Value) → length text ≤ n → item line text ≡ Ok value
-    → items n line before text ≡ further (items (n - 1) line) line (before ++ value ∷ []) (after_item text)
+    → items n line before text ≡ next_items (items (n - 1) line) line (before ++ value ∷ []) (after_item text)
 items_value zero line before [] value h e = cc
 items_value zero line before (b ∷ bytes) value h e = absurd (omega arith)
 items_value (suc n) line before text value h e =
@@ -57,7 +57,7 @@ fault_kept (Line l cause) n line before text to e h k = sym e ∙ items_fault n 
 
 read_item : (n line : ℕ) (before now : List Value) (text after : List ℕ) (value : Value) (to : Result FlowNode YamlFault)
     → items n line before text ≡ to → length text ≤ n → item line text ≡ Ok value → after ≡ after_item text → now ≡ before ++ value ∷ []
-    → further (items (n - 1) line) line now after ≡ to
+    → next_items (items (n - 1) line) line now after ≡ to
 read_item n line before now text after value to e h k a b = rw (b, a) (sym (items_value n line before text value h k) ∙ e)
 
 -- the bracket after an item

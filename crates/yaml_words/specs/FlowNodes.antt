@@ -14,7 +14,7 @@ use Rattle.yaml_words.specs.Places.{is_empty, begins_with, is_at}
 use Rattle.yaml_words.specs.Spaces.{trimmed, uncommented, after_spaces}
 use Rattle.yaml_words.specs.Quotes.{after_quote}
 use Rattle.yaml_words.specs.Plain.{plain}
-use Rattle.yaml_words.specs.Lists.{quoted_value, list_node}
+use Rattle.yaml_words.specs.Lists.{quoted_value, flow_list}
 
 -- a scalar, as a flow node
 abbrev pub scalar : Value → Result FlowNode YamlFault
@@ -33,8 +33,8 @@ abbrev pub plain_node : ℕ → List ℕ → Result FlowNode YamlFault
 plain_node line text = plain line (plain_part text) >>= scalar
 
 -- an empty map after its opening brace and spaces
-abbrev pub map_node : ℕ → List ℕ → Result FlowNode YamlFault
-map_node line text =
+abbrev pub flow_map : ℕ → List ℕ → Result FlowNode YamlFault
+flow_map line text =
     if begins_with 125 text && is_empty (after_spaces (drop 1 text)) then Ok w.EmptyMap else refused line Unsupported
 
 -- What a text on one line is, or its first fault from the left. Where it is a list, there are so many levels for it and its items.
@@ -42,7 +42,7 @@ abbrev pub flow_node : ℕ → ℕ → List ℕ → Result FlowNode YamlFault
 flow_node levels line text =
     if begins_with 39 text then quoted_node line Single (drop 1 text)
     else if begins_with 34 text then quoted_node line Double (drop 1 text)
-    else if begins_with 91 text then list_node levels line (after_spaces (drop 1 text))
+    else if begins_with 91 text then flow_list levels line (after_spaces (drop 1 text))
     else if is_at Open text then plain_node line text
-    else if begins_with 123 text then map_node line (after_spaces (drop 1 text))
+    else if begins_with 123 text then flow_map line (after_spaces (drop 1 text))
     else plain_node line text

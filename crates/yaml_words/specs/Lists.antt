@@ -57,9 +57,9 @@ after_item text =
 abbrev pub closed_list : ℕ → List Value → List ℕ → Result FlowNode YamlFault
 closed_list line items text = if is_empty (after_spaces text) then Ok (w.List items) else refused line Unsupported
 
--- what follows an item: the bracket, or a comma and further items
-abbrev pub further : (List Value → List ℕ → Result FlowNode YamlFault) → ℕ → List Value → List ℕ → Result FlowNode YamlFault
-further others line before text =
+-- what follows an item: the bracket, or a comma and next_items items
+abbrev pub next_items : (List Value → List ℕ → Result FlowNode YamlFault) → ℕ → List Value → List ℕ → Result FlowNode YamlFault
+next_items others line before text =
     if begins_with 93 text then closed_list line before (drop 1 text)
     else if begins_with 44 text then others before (after_spaces (drop 1 text))
     else refused line Unsupported
@@ -68,11 +68,11 @@ further others line before text =
 unfoldable pub items : ℕ → ℕ → List Value → List ℕ → Result FlowNode YamlFault
 items zero line before text = refused line Unsupported
 items (suc n) line before text =
-    item line text >>= λ value. further (items n line) line (before ++ value ∷ []) (after_item text)
+    item line text >>= λ value. next_items (items n line) line (before ++ value ∷ []) (after_item text)
 
 -- A list after its opening bracket and spaces, for whose items there are so many levels. Each item takes a byte.
-abbrev pub list_node : ℕ → ℕ → List ℕ → Result FlowNode YamlFault
-list_node levels line text =
+abbrev pub flow_list : ℕ → ℕ → List ℕ → Result FlowNode YamlFault
+flow_list levels line text =
     if is_empty text then refused line Unsupported
     else if begins_with 93 text then closed_list line [] (drop 1 text)
     else if nat_lt levels 2 then refused line TooDeep

@@ -39,12 +39,12 @@ quoted quote (b ∷ c ∷ bytes) =
     else with_text (b ∷ []) (quoted quote (c ∷ bytes))
 
 -- No public contract cites it. A text after its opening quote is this text, and then what the rest is.
-abbrev pub ReadsOn : QuoteKind → List ℕ → List ℕ → List ℕ → Type 0
-ReadsOn quote text front rest = quoted quote text ≡ with_text front (quoted quote rest)
+abbrev pub ReadsPiece : QuoteKind → List ℕ → List ℕ → List ℕ → Type 0
+ReadsPiece quote text front rest = quoted quote text ≡ with_text front (quoted quote rest)
 
 -- No public contract cites it. A rest that begins with no escape and no plain byte: it begins with the closing quote, or isn't closed.
-abbrev pub closed : QuoteKind → List ℕ → Option (List ℕ × List ℕ)
-closed quote text = if begins_with (closing_byte quote) text then Some ([], drop 1 text) else None
+abbrev pub at_closing : QuoteKind → List ℕ → Option (List ℕ × List ℕ)
+at_closing quote text = if begins_with (closing_byte quote) text then Some ([], drop 1 text) else None
 
 -- the text, where it is closed
 abbrev pub unquoted : QuoteKind → List ℕ → Option (List ℕ)

@@ -4,7 +4,7 @@ ghost use Rattle.yaml_words.specs.Faults.{GivesYaml};
 ghost use Rattle.yaml_words.specs.FlowNodes as spec;
 
 use crate::fault::{YamlCause, YamlFault, refused};
-use crate::lists::{list_node, quoted_value};
+use crate::lists::{flow_list, quoted_value};
 use crate::places::{Delimiter, is_at};
 use crate::plain::plain;
 use crate::quotes::{QuoteKind, after_quote};
@@ -53,8 +53,8 @@ fn plain_node(alloc: Global, line: u32, text: &str) -> Result<FlowNode, YamlFaul
     Ok(FlowNode::Scalar(value))
 }
 
-fn map_node(line: u32, text: &str) -> Result<FlowNode, YamlFault>
-    ensures { GivesYaml result (spec.map_node line text.now) }
+fn flow_map(line: u32, text: &str) -> Result<FlowNode, YamlFault>
+    ensures { GivesYaml result (spec.flow_map line text.now) }
 {
     let Some(tail) = after_byte(text, b'}') else {
         return Err(refused(line, YamlCause::Unsupported));
@@ -82,13 +82,13 @@ pub fn read_flow_node(
         return quoted_node(alloc, line, QuoteKind::Double, inner);
     }
     if let Some(inner) = after_byte(text, b'[') {
-        return list_node(alloc, levels, line, after_spaces(inner));
+        return flow_list(alloc, levels, line, after_spaces(inner));
     }
     if is_at(Delimiter::Open, text.as_bytes()) {
         return plain_node(alloc, line, text);
     }
     if let Some(inner) = after_byte(text, b'{') {
-        return map_node(line, after_spaces(inner));
+        return flow_map(line, after_spaces(inner));
     }
     plain_node(alloc, line, text)
 }

@@ -117,8 +117,8 @@ fn items(alloc: Global, line: u32, text: &str) -> Result<FlowNode, YamlFault>
 }
 
 /// A list after its opening bracket and spaces, for which and whose items there are so many levels.
-pub fn list_node(alloc: Global, levels: usize, line: u32, text: &str) -> Result<FlowNode, YamlFault>
-    ensures { GivesYaml result (spec.list_node levels line text.now) }
+pub fn flow_list(alloc: Global, levels: usize, line: u32, text: &str) -> Result<FlowNode, YamlFault>
+    ensures { GivesYaml result (spec.flow_list levels line text.now) }
 {
     if text.is_empty() {
         return Err(refused(line, YamlCause::Unsupported));

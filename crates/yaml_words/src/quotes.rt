@@ -66,7 +66,7 @@ impl QuoteKind {
 
 /// The plain bytes at the front of a text in quotes, and the rest.
 fn piece(quote: QuoteKind, text: &str) -> (&str, &str)
-    ensures parts { spec.ReadsOn quote text.now result.0.now result.1.now }
+    ensures parts { spec.ReadsPiece quote text.now result.0.now result.1.now }
     ensures ends { bytes.place (Delimiter.Special quote) result.1.now ≡ 0 }
     ensures shorter { length result.1.now ≤ length text.now }
 {
@@ -76,8 +76,8 @@ fn piece(quote: QuoteKind, text: &str) -> (&str, &str)
 /// What the escape stands for that begins a rest of a text in quotes, and what stands after it.
 fn escape(quote: QuoteKind, text: &str) -> Option<(char, &str)>
     requires { bytes.place (Delimiter.Special quote) text.now ≡ 0 }
-    ensures parts { IfSome result (λ x. spec.ReadsOn quote text.now (x.0 ∷ []) x.1.now) }
-    ensures none { IfNone result (spec.quoted quote text.now ≡ spec.closed quote text.now) }
+    ensures parts { IfSome result (λ x. spec.ReadsPiece quote text.now (x.0 ∷ []) x.1.now) }
+    ensures none { IfNone result (spec.quoted quote text.now ≡ spec.at_closing quote text.now) }
     ensures shorter { IfSome result (λ x. (length x.1.now < length text.now) × (x.0 < 128)) }
 {
     let after = after_byte(text, quote.escape_byte())?;

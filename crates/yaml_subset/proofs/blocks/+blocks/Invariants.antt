@@ -1,6 +1,6 @@
 use Rattle.std.proofs.Common.{◌≡◌, ◌+◌, ◌*◌, [], map, drop}
-use Rattle.yaml_subset.specs.Rows.{entry}
-use Rattle.yaml_subset.specs.Blocks.{block, items_of, pairs_of, keys_of}
+use Rattle.yaml_subset.specs.Rows.{block_entry}
+use Rattle.yaml_subset.specs.Blocks.{block, items_of, pairs_of, pair_keys}
 use Rattle.yaml_subset.proofs.blocks.+blocks.Given as goal
 
 abbrev pub decreases-block : goal.decreases-block
@@ -36,10 +36,10 @@ decreases-pairs l = 8 * l.levels + 6
 -- the items so far, and then those of the entries that are left, are all items
 abbrev pub invariant-items-loop-entry : goal.invariant-items-loop-entry
 invariant-items-loop-entry l =
-    items_of l.levels (block l.levels) l.column l.items (map entry (drop l.entry-index l.entry-items)) ≡ items_of l.levels (block l.levels) l.column [] (map entry l.entry-items)
+    items_of l.levels (block l.levels) l.column l.items (map block_entry (drop l.entry-index l.entry-items)) ≡ items_of l.levels (block l.levels) l.column [] (map block_entry l.entry-items)
 
 -- the pairs so far, and then those of the entries that are left, are all pairs; the keys are those of the pairs so far
 abbrev pub invariant-pairs-loop-entry : goal.invariant-pairs-loop-entry
 invariant-pairs-loop-entry l =
-    (l.keys ≡ keys_of l.pairs)
-    × (pairs_of l.levels (block l.levels) l.column l.pairs (map entry (drop l.entry-index l.entry-items)) ≡ pairs_of l.levels (block l.levels) l.column [] (map entry l.entry-items))
+    (l.keys ≡ pair_keys l.pairs)
+    × (pairs_of l.levels (block l.levels) l.column l.pairs (map block_entry (drop l.entry-index l.entry-items)) ≡ pairs_of l.levels (block l.levels) l.column [] (map block_entry l.entry-items))
