@@ -41,6 +41,7 @@ fn answer_to(
         "failing_write" => replays::pair_that_fails(alloc, Failing::Write, rest),
         "command" => commands::command(alloc, rest),
         "words" => commands::words(alloc, rest),
+        "args" => commands::args(alloc, rest),
         "unread" => commands::unread(alloc, rest),
         "example" => commands::example(alloc, rest),
         _ => String::from_str(alloc, "no such call"),
