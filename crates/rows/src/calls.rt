@@ -1,7 +1,9 @@
 //! Which function a row calls.
 use crate::replays::Failing;
 use crate::spread::{cut, spread};
-use crate::{commands, functions, globs, ids, json, messages, replays, scripts, targets, values, yaml};
+use crate::{
+    commands, functions, globs, ids, json, messages, replays, scripts, targets, values, yaml,
+};
 use std::alloc::{AllocError, Global};
 use target_tree::Groups;
 
