@@ -38,10 +38,10 @@ impl<'n, 'f> Report<'n, 'f> {
     }
 
     /// The job's function.
-    pub fn fun(&self) -> &Word
+    pub fn fun(&self) -> &'n Word
         ensures value { result.now ≡ self.now.fun }
     {
-        &self.node.jobs()[self.seq as usize].fun
+        fun_of(self.node, self.seq)
     }
 
     /// The rows, each copied.
@@ -57,6 +57,14 @@ impl<'n, 'f> Report<'n, 'f> {
     {
         row_count(self.node, self.seq)
     }
+}
+
+// The function of a job.
+fn fun_of<'n>(node: &'n Node, seq: u32) -> &'n Word
+    requires { HasJobAt node.now seq }
+    ensures { result.now ≡ (report_at node.now seq).fun }
+{
+    &node.jobs()[seq as usize].fun
 }
 
 // The rows of a job.

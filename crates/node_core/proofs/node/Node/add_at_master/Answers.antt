@@ -19,7 +19,9 @@ invariant_of-self-2 c =
     let old = subst (λ k. IsIndex n.fleet.now.tree n.me n.below.items n.records k) c.in-Master.is c.self.invariant.0 in
     let may = subst (λ (p : PlacedNode). MayAdd c.args.deed p) (sym c.self.view_is) c.requires.next in
     let found = c.minions_are_found.ensures in
-    let laws = c.outcomes_by_steps.ensures in
-    (rw (c.in_ok-push_deed.ensures.records, c.in_ok-push_deed.ensures.core)
-    (index_master n.fleet.now.tree n.me n.below.items found.below found.places laws.jobs laws.value laws.other_minions laws.other_jobs laws.listed c.logs_by_steps.ensures.up
-    _ _ c.args.deed may.next may.room may.fits old), c.self.invariant.1)
+    let laws = c.outcomes_by_steps.ensures in (
+      rw (c.in_ok-push_deed.ensures.records, c.in_ok-push_deed.ensures.core)
+          (index_master n.fleet.now.tree n.me n.below.items found.below found.places laws.jobs laws.value laws.other_minions laws.other_jobs laws.listed c.logs_by_steps.ensures.up
+          _ _ c.args.deed may.next may.room may.fits old),
+      c.self.invariant.1,
+    )
