@@ -135,12 +135,13 @@ impl<'f> Node<'f> {
         ensures ok { IfOk result (λ node. node ≡ empty_node fleet.now me) }
     {
         let core = MasterCore::new(alloc, fleet.ids_below(alloc, me)?)?;
+        let by_id = fleet.minions_by_id(alloc, me)?;
         Ok(Node {
             alloc,
             fleet,
             me,
             below: fleet.minions(alloc, me)?,
-            by_id: fleet.minions_by_id(alloc, me)?,
+            by_id,
             records: History::new(),
             core: Core::Master(core),
             known_jobs: Counts::new(alloc),
