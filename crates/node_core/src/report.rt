@@ -8,6 +8,7 @@ use std::alloc::{AllocError, Global};
 use std::marker::Model;
 
 /// The report of a job at a node: its function, and what the minions at or below the node returned of it, by the bytes of their ids.
+#[derive(Drop)]
 pub struct Report<'n, 'f> {
     node: &'n Node<'f>,
     seq: u32,

@@ -1,5 +1,5 @@
 -- How many rows the reports of some jobs have.
-use Rattle.std.proofs.Common.{◌≡◌, ℕ, suc, ◌+◌, ◌∙◌, refl, [], ◌∷◌, length, arith}
+use Rattle.std.proofs.Common.{◌≡◌, ℕ, suc, ◌+◌, ◌∙◌, refl, List, [], ◌∷◌, length, arith}
 use Rattle.std.proofs.lemmas.List.Sums.{sum_by-append}
 use Rattle.fleet_config.specs.Tree.{Tree, up_to}
 use Rattle.salt_wire.specs.declared.deed.Deed.{Deed}

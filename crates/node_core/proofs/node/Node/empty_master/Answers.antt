@@ -6,5 +6,5 @@ invariant_of-result c = (
   rw (c.new-2.ensures.value, c.in_ok-core.ensures.ok)
       (index_start c.args.fleet.now.tree c.args.me c.in_ok-minions.field-0.items _ c.requires.within c.in_ok-minions.ensures.ok c.in_ok-minions.ensures.within
       c.requires.master c.in_ok-ids_below.ensures.ok),
-  record { is = c.in_ok-minions_by_id.ensures.ok; within = c.in_ok-minions_by_id.ensures.within },
+  record { is = c.in_ok-by_id.ensures.ok; within = c.in_ok-by_id.ensures.within },
 )
