@@ -22,12 +22,9 @@ fn main(rt: HostRuntime) -> io::Result<()> {
         let script = fs::read(&rt, format!(in alloc; "{name}.script")?.as_str())?;
         let wanted = fs::read(&rt, format!(in alloc; "{name}.out")?.as_str())?;
         let ending = run_example(alloc, &script, &wanted);
-        let told = if ending.is_as_wanted {
-            "as written beside it"
-        } else {
-            "otherwise"
-        };
-        println!(rt; "{name}: status {}, {told}", ending.code)?;
+        let code = ending.code;
+        let is_as_wanted = ending.is_as_wanted;
+        println!(rt; "{name}: status {code}, as written beside it: {is_as_wanted}")?;
     }
     Ok(())
 }

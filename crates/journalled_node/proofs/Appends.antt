@@ -1,16 +1,14 @@
 -- What the append of a record leaves of a node's records.
-use Rattle.std.proofs.Common.{◌≡◌, ◌⊎◌, ℕ, ◌+◌, ◌≤◌, ◌<◌, ◌==◌, nat_le, ◌-◌, ◌∙◌, sym, ap, inl, arith, refl, subst, Bool, true, false, List, [], ◌∷◌, ◌++◌, length, Option, None, Some, Result, Ok, Err, if◌then◌else◌}
-use Rattle.std.specs.Prelude.{map, ◌||◌, IsErrOf, OnOk, IfOk, IfErr}
+use Rattle.std.proofs.Common.{◌≡◌, ◌⊎◌, ℕ, ◌==◌, nat_le, ◌-◌, ◌∙◌, sym, ap, inl, arith, refl, subst, Bool, true, false, List, [], ◌∷◌, ◌++◌, length, Option, None, Some, Result, Ok, Err, if◌then◌else◌}
+use Rattle.std.specs.Prelude.{◌||◌, IsErrOf, OnOk, IfOk}
 use Rattle.std.proofs.lemmas.List.{map-append}
 use Rattle.salt_disk.specs.declared.disk.Disk.{Ghosts}
-use Rattle.salt_disk.specs.declared.disk.Part.{Part}
 use Rattle.salt_disk.specs.declared.disk.Fuse.{Fuse}
 use Rattle.salt_disk.specs.declared.disk.Fuse.TheVariants.{Whole, Armed, Out}
-use Rattle.salt_disk.specs.Disk.{DiskState}
 use Rattle.salt_disk.specs.Crash.{Image, MayLeave, LeavesOnly}
 use Rattle.salt_disk.specs.Fuse.{Passes, fuse_after}
 use Rattle.salt_disk.proofs.Moments.{started}
-use Rattle.gate_journal.specs.Layout.{open_gate, record_overhead}
+use Rattle.gate_journal.specs.Layout.{open_gate}
 use Rattle.gate_journal.specs.Journal.{JournalState}
 use Rattle.gate_journal.specs.Append.{after_append, DownExactly}
 use Rattle.gate_journal.specs.declared.fault.AppendFault.{AppendFault}
@@ -31,12 +29,11 @@ use Rattle.node_core.specs.Node.{PlacedNode}
 use Rattle.node_core.specs.Records.{jobs}
 use Rattle.node_core.specs.NextRecords.{with_if_any, placed_after}
 use Rattle.node_core.specs.Publications.{Order, IsJobOfOrder, PublishesOrder}
-use Rattle.journalled_node.specs.declared.fault.TakeFault.{TakeFault}
 use Rattle.journalled_node.specs.declared.fault.PublishFault.{PublishFault}
-use Rattle.journalled_node.specs.State.{JournalledState, records_content, HasRecords, HasRecordsOrMore}
+use Rattle.journalled_node.specs.State.{records_content, HasRecords, HasRecordsOrMore}
 use Rattle.journalled_node.specs.Calls.{CallEnd, HasRecordsByEnd, take_end, append_end, kept_fault, node_fault, record_by_stop, KeepsByCall, IsKeptFault, TellsRoom, node_over}
 use Rattle.journalled_node.specs.Orders.{publish_end, unpublished, unmade}
-use Rattle.journalled_node.specs.Calls.CallEnd.{Answered, WasDown, WasRefused, WantedMemory, WasFull, DiskFailed}
+use Rattle.journalled_node.specs.Calls.CallEnd.{Answered, WasRefused, WantedMemory, WasFull, DiskFailed}
 
 or_true : {A : Type 0} (b : Bool) → (b || true) ≡ false → A
 or_true true e = absurd cc

@@ -1,6 +1,6 @@
 -- What a load answers, and what it leaves.
-use Rattle.std.proofs.Common.{◌≡◌, ℕ, ◌+◌, ◌-◌, ◌<◌, ◌≤◌, ◌∙◌, sym, ap, refl, subst, inl, inr, arith, Bool, true, false, List, [], ◌∷◌, ◌++◌, length, nat_le, Option, None, Some, Result, Ok, Err}
-use Rattle.std.specs.Prelude.{◌||◌, ◌⊎◌, map, IfOk, IfErr, OnOk, IsErrOf, if◌then◌else◌}
+use Rattle.std.proofs.Common.{◌≡◌, ℕ, ◌+◌, ◌-◌, ◌<◌, ◌≤◌, ◌∙◌, sym, ap, refl, subst, inl, inr, arith, Bool, true, false, List, [], length, nat_le, Option, None, Some, Result, Ok, Err}
+use Rattle.std.specs.Prelude.{◌||◌, ◌⊎◌, map, IfOk, IfErr, IsErrOf, if◌then◌else◌}
 use Rattle.std.proofs.lemmas.Bool.{le-leb, leb-true}
 use Rattle.salt_outside.specs.Causes.{CountsFaults, Rose}
 use Rattle.salt_disk.specs.declared.disk.Disk.{Ghosts}
@@ -8,7 +8,7 @@ use Rattle.salt_disk.specs.declared.disk.Part.{Part}
 use Rattle.salt_disk.specs.declared.disk.Part.TheVariants.{Root, Even}
 use Rattle.salt_disk.specs.declared.disk.Fuse.{Fuse}
 use Rattle.salt_disk.specs.declared.disk.Fuse.TheVariants.{Whole, Armed, Out}
-use Rattle.salt_disk.specs.Disk.{DiskState, PartState, part_of, settled_part}
+use Rattle.salt_disk.specs.Disk.{DiskState, PartState, part_of}
 use Rattle.salt_disk.specs.Crash.{Image, IsPartImage, MayLeave, LeavesOnly}
 use Rattle.salt_disk.specs.Fuse.{Passes, fuse_after}
 use Rattle.salt_disk.specs.Memory.{IsPicked}
@@ -23,25 +23,25 @@ use Rattle.gate_journal.specs.Layout.{first_gate, record_overhead}
 use Rattle.gate_journal.specs.Payloads.{PlacedPayloads, gate_place}
 use Rattle.checkpoint_log.specs.declared.content.LoadedContent.{LoadedContent}
 use Rattle.checkpoint_log.specs.Content.{LogContent, IsLog, HoldsContent, bytes_in, content_length}
-use Rattle.checkpoint_log.specs.Loading.{HasLogFault, AreSettled, KeepsAllBytes, HoldsLoaded, LoadsUpLog, TellsLogFault, SettlesAll, BurnsByLoad, AnswersEachLog, content_of}
+use Rattle.checkpoint_log.specs.Loading.{AreSettled, KeepsAllBytes, TellsLogFault, SettlesAll, BurnsByLoad, content_of}
 use Rattle.checkpoint_log.specs.Laws.{LogsAreOne}
 use Rattle.checkpoint_log.proofs.Faults.{no_fault, one_fault}
 use Rattle.gate_journal.specs.Calls.{LeavesAsBefore}
 use Rattle.fleet_config.specs.Fleet.{FleetConfig}
-use Rattle.fleet_config.specs.Tree.{Tree, id_of, is_minion}
+use Rattle.fleet_config.specs.Tree.{Tree, is_minion}
 use Rattle.salt_wire.specs.declared.deed.Deed.{Deed}
 use Rattle.salt_wire.specs.declared.deed.Deed.TheVariants.{Boot}
 use Rattle.journal_records.specs.Spelling.{record_bytes}
 use Rattle.journal_records.specs.RoundTrip.{HasOneRecord}
 use Rattle.node_core.specs.Node.{PlacedNode}
-use Rattle.node_core.specs.NextRecords.{AreRecordsAt, MayAdd, has_log_room_at, placed_after, with_if_any}
+use Rattle.node_core.specs.NextRecords.{with_if_any}
 use Rattle.journalled_node.specs.declared.fault.LoadFault.{LoadFault}
 use Rattle.journalled_node.specs.declared.fault.LoadFault.TheVariants as n
-use Rattle.journalled_node.specs.State.{JournalledState, is_lost_or_down, records_content, StandsOnDisk, HasRecords, HasRecordsOrMore}
-use Rattle.journalled_node.specs.Calls.{CallEnd, KeepsByCall, HasRecordsByEnd, IsFullBy, HadRoom, append_end, changing_calls, length_with, node_over, record_by_stop}
-use Rattle.journalled_node.specs.Calls.CallEnd.{Answered, DiskFailed, WasFull}
-use Rattle.journalled_node.specs.Loading.{start_at, loaded_node, IsLoadedAt, HasRecordsAt, AreBytesOf, IsFirstWrong, HasWrongRecord, LacksRoomToStart, HasLoadFault, IsLoadFault, IsLoadedFrom, HasRoomToStart, tells_of_bytes, IsTaken, IsDenied, AnswersEachNode, HasRecordsFrom, load_calls, start_by_stop, IsDamage, KeepsByLoad}
-use Rattle.journalled_node.specs.Starts.{unread, unstarted, IsStartFault, MayAddIfAny, placed_after_any, IsNodeOf, FitAJournal, IsPayloadFault, IsReadAt, ReadsNode}
+use Rattle.journalled_node.specs.State.{JournalledState, records_content, HasRecords, HasRecordsOrMore}
+use Rattle.journalled_node.specs.Calls.{CallEnd, KeepsByCall, IsFullBy, HadRoom, append_end, changing_calls, node_over, record_by_stop}
+use Rattle.journalled_node.specs.Calls.CallEnd.{Answered, DiskFailed}
+use Rattle.journalled_node.specs.Loading.{start_at, loaded_node, IsLoadedAt, HasRecordsAt, IsFirstWrong, HasWrongRecord, LacksRoomToStart, HasLoadFault, IsLoadFault, IsLoadedFrom, HasRoomToStart, tells_of_bytes, IsTaken, IsDenied, AnswersEachNode, HasRecordsFrom, start_by_stop, IsDamage, KeepsByLoad}
+use Rattle.journalled_node.specs.Starts.{unread, unstarted, IsStartFault, placed_after_any, IsNodeOf, FitAJournal, IsPayloadFault, IsReadAt, ReadsNode}
 use Rattle.journalled_node.proofs.Payloads.{one_list, none_wrong, one_wrong, is_wrong, loaded_more}
 
 -- ---- the bytes have one meaning
@@ -369,6 +369,10 @@ module _ {D : Type 0} (disk : Ghosts D) (old new : D) (f : FleetConfig) (me : �
 
 -- ---- a load that came to its start
 
+-- answers that are the same fault
+err_of : {T E : Type 0} (x y : E) → ◌≡◌ {A = Result T E} (Err x) (Err y) → x ≡ y
+err_of x y e = cc
+
 answers_full : (t : Tree) (me : ℕ) (n : JournalledState) (minion : Bool) (length limit : ℕ) → IsFullBy n (if minion then Some Boot else None) length limit
     → (minion ≡ true) × (length ≡ n.log.length + record_overhead + 1) × (limit ≡ n.log.limit) × (limit < length)
 answers_full t me n true length limit full = (refl, full.0, full.1, full.2)
@@ -507,46 +511,49 @@ module _ {D : Type 0} (disk : Ghosts D) (old mid new : D) (f : FleetConfig) (me 
         (subst (λ (k : ℕ). HasRecords k (with_if_any (record_by_stop (calls - 3) pick (start_at f.tree me)) records) image) one.0
         (subst (λ (rs : List Deed). HasRecords j.limit (with_if_any (record_by_stop (calls - 3) pick (start_at f.tree me)) rs) image) one.1 here))
 
+    -- a start that was not kept is no damage
+    undamaged : (fault : AppendFault) → IsDamage {T = JournalledState} (Err (unstarted fault)) → ⊥
+    undamaged a.NoMemory damage = damage
+    undamaged a.Down damage = damage
+    undamaged a.Disk damage = damage
+    undamaged (a.Full long most) damage = damage
+
+    -- a load that came to its start answers that the disk failed only where it failed at the start
+    failed : (fault : AppendFault) → IsStartFault loaded (start_at f.tree me) fault → unstarted fault ≡ n.Disk → append_end {T = Unit {0}} (Err fault) ≡ DiskFailed
+    failed a.NoMemory why e = absurd cc
+    failed a.Down why e = absurd why
+    failed a.Disk why e = refl
+    failed (a.Full long most) why e = absurd cc
+
+    full_so : (fault : AppendFault) → IsStartFault loaded (start_at f.tree me) fault → KeepsByCall disk mid new loaded after (start_at f.tree me) (append_end {T = Unit {0}} (Err fault))
+        → (length limit : ℕ) → unstarted fault ≡ n.Full length limit → (image : Image) → MayLeave (disk.state new) image
+        → (records : List Deed) × HasRecordsAt f.tree me limit records (bytes_in (disk.state old)) × HasRecords limit records image
+    full_so a.NoMemory why call length limit e = absurd cc
+    full_so a.Down why call length limit e = absurd why
+    full_so a.Disk why call length limit e = absurd cc
+    full_so (a.Full long most) why call length limit e = λ image may.
+        let limits : most ≡ limit = cc in
+        let full = answers_full f.tree me loaded (is_minion f.tree me) long most why in
+        let same : j.limit ≡ limit = sym full.2 ∙ limits in (
+          p.state.records,
+          subst (λ (k : ℕ). HasRecordsAt f.tree me k p.state.records (bytes_in (disk.state old))) same read.records,
+          subst (λ (k : ℕ). HasRecords k p.state.records image) same (call.left told image may),
+        )
+
     kept_so : (fault : AppendFault) → IsStartFault loaded (start_at f.tree me) fault
         → KeepsByCall disk mid new loaded after (start_at f.tree me) (append_end {T = Unit {0}} (Err fault)) → KeepsByLoad disk old new f.tree me (Err (unstarted fault))
-    kept_so a.Down why call = absurd why
-    kept_so a.NoMemory why call = record {
+    kept_so fault why call = record {
       any_moment = moment after _ told call;
       stands = tt;
       left = tt;
-      kept = λ damage. absurd damage;
-      full = λ length limit e. absurd cc;
+      kept = λ damage. absurd (undamaged fault damage);
+      full = λ length limit e. full_so fault why call length limit (err_of _ _ e);
       passed = tt;
-      not_passed = λ e. absurd cc;
-      stopped = λ e. absurd cc;
-    }
-    kept_so (a.Full long most) why call = record {
-      any_moment = moment after _ told call;
-      stands = tt;
-      left = tt;
-      kept = λ damage. absurd damage;
-      full = λ length limit e image may.
-          let limits : most ≡ limit = cc in
-          let full = answers_full f.tree me loaded (is_minion f.tree me) long most why in
-          let same : j.limit ≡ limit = sym full.2 ∙ limits in (
-            p.state.records,
-            subst (λ (k : ℕ). HasRecordsAt f.tree me k p.state.records (bytes_in (disk.state old))) same read.records,
-            subst (λ (k : ℕ). HasRecords k p.state.records image) same (call.left told image may),
-          );
-      passed = tt;
-      not_passed = λ e. absurd cc;
-      stopped = λ e. absurd cc;
-    }
-    kept_so a.Disk why call = record {
-      any_moment = moment after _ told call;
-      stands = tt;
-      left = tt;
-      kept = λ damage. absurd damage;
-      full = λ length limit e. absurd cc;
-      passed = tt;
-      not_passed = λ e passes. call.not_passed told refl
+      not_passed = λ e passes. call.not_passed told (failed fault why (err_of _ _ e))
           (subst (Passes (changing_calls (start_at f.tree me))) (sym three.1) (passes_split 3 (changing_calls (start_at f.tree me)) (disk.fuse old) passes).1);
-      stopped = λ e rests limit records has calls pick cut image armed may picked. start_stop call limit records has calls pick cut image armed may picked;
+      stopped = λ e rests limit records has calls pick cut image armed may picked.
+          start_stop (subst (λ (end : CallEnd). KeepsByCall disk mid new loaded after (start_at f.tree me) end) (failed fault why (err_of _ _ e)) call)
+          limit records has calls pick cut image armed may picked;
     }
 
     -- what is left where the start was not kept

@@ -1,11 +1,10 @@
 -- Payloads as the records of a node.
-use Rattle.std.proofs.Common.{◌≡◌, ℕ, zero, suc, ◌+◌, ◌<◌, ◌≤◌, ◌∙◌, sym, ap, refl, subst, inl, inr, All, arith, Bool, true, false, ◌&&◌, ◌==◌, nat_lt, nat_le, List, [], ◌∷◌, ◌++◌, length, take, bytes_eq, append-nil, append_assoc, Option, None, Some}
+use Rattle.std.proofs.Common.{◌≡◌, ℕ, zero, suc, ◌+◌, ◌<◌, ◌≤◌, ◌∙◌, sym, ap, refl, subst, inl, inr, All, arith, Bool, true, false, nat_le, List, [], ◌∷◌, ◌++◌, length, take, bytes_eq, append-nil, append_assoc, Option, None, Some}
 use Rattle.std.specs.Prelude.{◌||◌, map, slice_index_or, if◌then◌else◌}
-use Rattle.std.specs.List.{list_all}
 use Rattle.std.proofs.lemmas.Bool.{lt-ltb, le-leb, cases_lt}
-use Rattle.std.proofs.lemmas.List.{length_push, length-append, length-map, length-take-le, take-take, take_all, get_or-take, get_or-map, map-append}
-use Rattle.std.proofs.lemmas.List.Elements.{All-nil, All-head, All-tail, All-take, All-get_or}
-use Rattle.gate_journal.specs.Journal.{JournalState, records, record_of, journal_length}
+use Rattle.std.proofs.lemmas.List.{length-append, length-map, length-take-le, take-take, get_or-take, map-append}
+use Rattle.std.proofs.lemmas.List.Elements.{All-head, All-tail, All-take, All-get_or}
+use Rattle.gate_journal.specs.Journal.{JournalState, records, record_of}
 use Rattle.gate_journal.specs.Layout.{greatest_limit}
 use Rattle.gate_journal.proofs.Store.{journal_length-push}
 use Rattle.fleet_config.specs.Fleet.{FleetConfig}
@@ -23,7 +22,7 @@ use Rattle.journal_records.specs.Limits.{RecordFits}
 use Rattle.journal_records.specs.Spelling.{record_bytes, changed_bytes}
 use Rattle.journal_records.specs.RoundTrip.{HasOneRecord}
 use Rattle.node_core.specs.Records.{log, log_after}
-use Rattle.node_core.specs.NextRecords.{AreRecordsAt, MayAdd, is_next_record, are_next, has_log_room, most_own_entries, placed_after}
+use Rattle.node_core.specs.NextRecords.{AreRecordsAt, is_next_record, are_next, has_log_room, most_own_entries, placed_after}
 use Rattle.node_core.specs.Node.{PlacedNode, first_held}
 use Rattle.node_core.proofs.Nexts.{both_true, no_records, records_more}
 use Rattle.journalled_node.specs.Loading.{AreBytesOf, IsFirstWrong, loaded_node, start_at}

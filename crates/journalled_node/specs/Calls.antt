@@ -1,8 +1,7 @@
 -- What a call on a node over its log leaves on its disk, by how it ended.
-use Rattle.std.specs.Prelude.{◌≡◌, ◌⊎◌, ℕ, ◌+◌, ◌≤◌, ◌<◌, ◌==◌, nat_le, ⊤, Bool, true, false, List, length, Option, None, Some, Result, Ok, Err, OnOk, IsErrOf, if◌then◌else◌}
+use Rattle.std.specs.Prelude.{◌≡◌, ℕ, ◌+◌, ◌≤◌, ◌<◌, ◌==◌, nat_le, ⊤, Bool, true, false, List, length, Option, None, Some, Result, Ok, Err, OnOk, IsErrOf, if◌then◌else◌}
 use Rattle.salt_disk.specs.declared.disk.Disk.{Ghosts}
 use Rattle.salt_disk.specs.declared.disk.Part.{Part}
-use Rattle.salt_disk.specs.declared.disk.Fuse.{Fuse}
 use Rattle.salt_disk.specs.declared.disk.Fuse.TheVariants.{Armed}
 use Rattle.salt_disk.specs.Disk.{part_of}
 use Rattle.salt_disk.specs.Crash.{Image, MayLeave, LeavesOnly}

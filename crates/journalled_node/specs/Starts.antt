@@ -1,5 +1,5 @@
 -- The steps of a load. No public contract cites these.
-use Rattle.std.specs.Prelude.{◌≡◌, ◌<◌, ◌≤◌, ℕ, ⊤, Bool, true, false, List, [], map, length, take, Option, None, Some, Result, Ok, Err, IfOk, IfErr, IsErrOf, slice_index_or}
+use Rattle.std.specs.Prelude.{◌≡◌, ◌<◌, ◌≤◌, ℕ, ⊤, Bool, true, false, List, [], map, length, take, Option, None, Some, Result, IfOk, IfErr, IsErrOf, slice_index_or}
 use Rattle.salt_disk.specs.declared.disk.Disk.{Ghosts}
 use Rattle.salt_disk.specs.Fuse.{Passes, fuse_after}
 use Rattle.gate_journal.specs.Calls.{LeavesAsBefore}

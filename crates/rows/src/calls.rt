@@ -1,6 +1,9 @@
 //! Which function a row calls.
+use crate::replays::Failing;
 use crate::spread::{cut, spread};
-use crate::{commands, functions, globs, ids, json, messages, replays, scripts, targets, values};
+use crate::{
+    commands, functions, globs, ids, json, messages, replays, scripts, targets, values, yaml,
+};
 use std::alloc::{AllocError, Global};
 use target_tree::Groups;
 
@@ -36,12 +39,14 @@ fn answer_to(
         "script" => scripts::script(alloc, rest),
         "replay" => replays::replay(alloc, rest),
         "pair" => replays::pair(alloc, rest),
-        "failing_read" => replays::failing_read(alloc, rest),
-        "failing_write" => replays::failing_write(alloc, rest),
+        "failing_read" => replays::pair_that_fails(alloc, Failing::Read, rest),
+        "failing_write" => replays::pair_that_fails(alloc, Failing::Write, rest),
         "command" => commands::command(alloc, rest),
         "words" => commands::words(alloc, rest),
+        "args" => commands::args(alloc, rest),
         "unread" => commands::unread(alloc, rest),
         "example" => commands::example(alloc, rest),
+        "yaml" => yaml::yaml(alloc, rest),
         _ => String::from_str(alloc, "no such call"),
     }
 }

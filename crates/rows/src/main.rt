@@ -16,6 +16,7 @@ mod spread;
 mod targets;
 mod trees;
 mod values;
+mod yaml;
 
 use std::io;
 use target_tree::Groups;

@@ -8,6 +8,13 @@ use std::alloc::{AllocError, Global};
 const PAIR: &str =
     "%fleet|nodes:|- id: top|  role: top|- id: m1|  role: minion|  parent: top|- id: m2|  role: minion|  parent: top|%schedule|";
 
+/// Which calls fail: those of the source, or those of the sink.
+#[derive(Clone, Copy)]
+pub enum Failing {
+    Read,
+    Write,
+}
+
 /// What a script writes, and the status.
 pub fn replay(alloc: Global, script: &str) -> Result<String, AllocError> {
     run(alloc, script, 0, 0)
@@ -18,28 +25,15 @@ pub fn pair(alloc: Global, turns: &str) -> Result<String, AllocError> {
     run(alloc, pair_of(alloc, turns)?.as_str(), 0, 0)
 }
 
-/// The same where the read of this number fails, from 1.
-pub fn failing_read(alloc: Global, rest: &str) -> Result<String, AllocError> {
+/// The same where the call of this number on the source or on the sink fails, from 1.
+pub fn pair_that_fails(alloc: Global, which: Failing, rest: &str) -> Result<String, AllocError> {
     let (number, turns) = cut(rest);
+    let number = number.parse::<u64>().unwrap_or(0);
     let script = pair_of(alloc, turns)?;
-    run(
-        alloc,
-        script.as_str(),
-        number.parse::<u64>().unwrap_or(0),
-        0,
-    )
-}
-
-/// The same where the write of this number fails, from 1.
-pub fn failing_write(alloc: Global, rest: &str) -> Result<String, AllocError> {
-    let (number, turns) = cut(rest);
-    let script = pair_of(alloc, turns)?;
-    run(
-        alloc,
-        script.as_str(),
-        0,
-        number.parse::<u64>().unwrap_or(0),
-    )
+    match which {
+        Failing::Read => run(alloc, script.as_str(), number, 0),
+        Failing::Write => run(alloc, script.as_str(), 0, number),
+    }
 }
 
 /// The script of a schedule over two minions.

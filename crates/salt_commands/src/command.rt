@@ -4,19 +4,11 @@ ghost use Rattle.salt_replay.specs.Replay.{command, IsReplayStatus, IsNoCommand,
 ghost use Rattle.salt_replay.specs.Output.{PrintsScripts};
 ghost use Rattle.salt_commands.specs.Words.{words_read, HasNoCommand, IdlesUnread};
 
+use crate::Unread;
 use salt_outside::{Sink, Source};
 use salt_replay::{Status, salt_main};
 use salt_value::Text;
 use std::alloc::Global;
-
-/// Why the words of the command line were not read.
-#[derive(Clone, Copy, Debug, PartialEq, Eq)]
-pub enum Unread {
-    /// One of them is no UTF-8.
-    NotUtf8,
-    /// Want of memory, or another fault of the system that gives them.
-    Other,
-}
 
 /// Runs the command that the words are: the one word `replay`. A word that is no UTF-8 is in no command, so that it gives what no words
 /// give, status 2 with its line. Words that were not read for another cause give status 1, and leave the source and the sink as they
@@ -41,6 +33,6 @@ pub fn run_command<S: Source, K: Sink>(
     match words {
         Ok(words) => salt_main(alloc, words.as_slice(), source, sink),
         Err(Unread::NotUtf8) => salt_main(alloc, &[], source, sink),
-        Err(Unread::Other) => Status { code: 1 },
+        Err(Unread::NoMemory | Unread::Other) => Status { code: 1 },
     }
 }

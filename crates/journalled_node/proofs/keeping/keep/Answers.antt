@@ -1,4 +1,4 @@
-use Rattle.std.proofs.Common.{◌⊎◌, inl}
+use Rattle.std.proofs.Common.{inl}
 use Rattle.salt_disk.proofs.Moments.{started}
 use Rattle.checkpoint_log.specs.Additions.{IsOldOrNewLog}
 use Rattle.journal_records.specs.Spelling.{record_bytes}

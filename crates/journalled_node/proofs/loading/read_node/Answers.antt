@@ -1,4 +1,4 @@
-use Rattle.std.proofs.Common.{◌≡◌, refl, arith}
+use Rattle.std.proofs.Common.{arith}
 use Rattle.journalled_node.proofs.Loads.{read_at, read_there, read_not}
 use Rattle.journalled_node.proofs.loading.read_node.Goals as goal
 

@@ -1,0 +1,10 @@
+pub mod FlowNodes
+pub mod Keys
+pub mod Lists
+pub mod Plain
+pub mod Written
+pub mod Numbers
+pub mod Quotes
+pub mod Places
+pub mod Spaces
+pub mod Faults
