@@ -6,3 +6,4 @@ pub mod Fleets
 pub mod Owns
 pub mod Ids
 pub mod Growth
+pub mod Orders

@@ -1,5 +1,6 @@
 pub mod Limits
 pub mod Tree
+pub mod Order
 pub mod Fleet
 pub mod Causes
 pub mod Growth

@@ -1,4 +1,3 @@
-pub mod Orders
 mod Bodies
 mod Delivers
 mod Placed

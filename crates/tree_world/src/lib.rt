@@ -9,7 +9,6 @@
 mod nodes;
 mod packet;
 mod queries;
-mod report;
 mod settle;
 mod text;
 mod world;
