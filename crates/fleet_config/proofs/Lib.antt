@@ -6,4 +6,3 @@ pub mod Fleets
 pub mod Owns
 pub mod Ids
 pub mod Growth
-pub mod Orders

@@ -1,6 +1,5 @@
 pub mod Limits
 pub mod Tree
-pub mod Order
 pub mod Fleet
 pub mod Causes
 pub mod Growth

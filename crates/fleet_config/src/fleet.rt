@@ -12,7 +12,6 @@ ghost use Rattle.fleet_config.specs.Growth as growth;
 ghost use Rattle.fleet_config.specs.Causes as causes;
 ghost use Rattle.indexmap.specs.IndexMap.{get};
 
-use crate::order::sort_by_id;
 use crate::{FleetNode, NodeFault};
 use exec_functions::Holdings;
 use indexmap::IndexMap;
@@ -95,7 +94,6 @@ impl Model for Fleet {
 impl Fleet {
     ghost use Rattle.std.specs.Prelude.{◌==◌};
     ghost use Rattle.fleet_config.specs.Tree.{member};
-    ghost use Rattle.fleet_config.specs.Order.{minions_by_id};
     ghost use Rattle.fleet_config.specs.Fleet.{IsFleet, AreLimits, with_limits, with_group, fleet_with, flat_fleet};
     ghost use Rattle.fleet_config.specs.Growth.{with_node, node_fault, IsNodeFault};
 
@@ -336,16 +334,6 @@ impl Fleet {
             let is_here = self.is_minion(other) && self.is_within(node, other);
             push_where(is_here, other, &mut found)?;
         }
-        Ok(found)
-    }
-
-    /// The minions at or below a node, by the bytes of their ids.
-    pub fn minions_by_id(&self, alloc: Global, node: NodeId) -> Result<Vec<NodeId>, AllocError>
-        ensures ok { IfOk result (λ found. found.items ≡ minions_by_id self.now.tree node) }
-        ensures within { IfOk result (λ found. All (λ m. m < length self.now.tree) found.items) }
-    {
-        let mut found = self.minions(alloc, node)?;
-        sort_by_id(self, &mut found)?;
         Ok(found)
     }
 

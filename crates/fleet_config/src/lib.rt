@@ -6,7 +6,6 @@
 mod fleet;
 mod laws;
 mod node;
-mod order;
 
 pub use fleet::{
     Fleet, LEAST_JOURNAL_LIMIT, MOST_JOBS, MOST_JOURNAL_LIMIT, MOST_LEVELS, MOST_MINIONS,

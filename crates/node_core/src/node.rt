@@ -22,7 +22,7 @@ use crate::strays::{
     first_cause, is_below, is_here, is_later, is_neighbour, names_held, place_of, seq_of,
     stray_other, take_fault,
 };
-use crate::{PendFault, PublishFault, Report, Stray, TakeFault};
+use crate::{PendFault, PublishFault, Stray, TakeFault};
 use exec_functions::Holdings;
 use fleet_config::{Fleet, MOST_JOBS, minions_are_found};
 use job_store::{JobStore, outcomes_by_steps};
@@ -45,7 +45,6 @@ pub struct Node<'f> {
     fleet: &'f Fleet,
     me: NodeId,
     below: Vec<NodeId>,
-    by_id: Vec<NodeId>,
     records: History,
     core: Core,
     known_jobs: Counts,
@@ -65,9 +64,7 @@ impl<'f> Model for Node<'f> {
 
     ghost view = { λ n. record { fleet = n.fleet.now; me = n.me; state = record { minion = is_minion_core n.core; records = n.records; held = held_in n.core; known_jobs = n.known_jobs; known_ups = n.known_ups } } };
 
-    ghost use Rattle.node_core.specs.Report.{AreInOrder};
-
-    ghost invariant = { λ n. IsIndex n.fleet.now.tree n.me n.below.items n.records n.core × AreInOrder n.fleet.now.tree n.me n.by_id.items };
+    ghost invariant = { λ n. IsIndex n.fleet.now.tree n.me n.below.items n.records n.core };
 }
 
 impl<'f> Node<'f> {
@@ -76,9 +73,6 @@ impl<'f> Node<'f> {
     ghost use Rattle.node_core.specs.NextRecords.{is_next_job, is_next_run};
     ghost use Rattle.node_core.specs.Steps.{is_next_entry_at, IsNextEntryDeed, own_log};
     ghost use Rattle.node_core.specs.Records.{jobs, log, jobs_held};
-    ghost use Rattle.fleet_config.specs.Order.{minions_by_id};
-    ghost use Rattle.node_core.specs.Report as report;
-    ghost use Rattle.node_core.specs.Report.{report_of};
     ghost use Rattle.node_core.specs.Counts.{known_count};
     ghost use Rattle.minion_core.specs.Flat.{return_of, is_first};
     ghost use Rattle.salt_wire.specs.Limits.{Within, EntryFits};
@@ -120,7 +114,6 @@ impl<'f> Node<'f> {
             fleet,
             me,
             below: fleet.minions(alloc, me)?,
-            by_id: fleet.minions_by_id(alloc, me)?,
             records: History::new(),
             core: Core::Minion(core),
             known_jobs: Counts::new(alloc),
@@ -135,13 +128,11 @@ impl<'f> Node<'f> {
         ensures ok { IfOk result (λ node. node ≡ empty_node fleet.now me) }
     {
         let core = MasterCore::new(alloc, fleet.ids_below(alloc, me)?)?;
-        let by_id = fleet.minions_by_id(alloc, me)?;
         Ok(Node {
             alloc,
             fleet,
             me,
             below: fleet.minions(alloc, me)?,
-            by_id,
             records: History::new(),
             core: Core::Master(core),
             known_jobs: Counts::new(alloc),
@@ -422,41 +413,6 @@ impl<'f> Node<'f> {
         ensures within { All (λ m. m < length self.now.fleet.tree) result.now }
     {
         self.below.as_slice()
-    }
-
-    /// The minions at or below it, by the bytes of their ids.
-    pub fn below_by_id(&self) -> &[NodeId]
-        ensures value { result.now ≡ minions_by_id self.now.fleet.tree self.now.me }
-        ensures within { All (λ m. m < length self.now.fleet.tree) result.now }
-    {
-        self.by_id.as_slice()
-    }
-
-    /// The report of the job with this jid, with a row for each minion at or below the node that returned it. None exactly where the node
-    /// lists no such job; a minion lists none. It is lent out of the node, and takes no memory.
-    pub fn report(&self, jid: Jid) -> Option<Report<'_, 'f>>
-        ensures value { result ≡ report_of jid self.now }
-    {
-        match self.core.store() {
-            Some(store) => match store.number_of(jid) {
-                Some(seq) => Some(Report::new(self, seq)),
-                None => None,
-            },
-            None => None,
-        }
-    }
-
-    /// The report of the job with this number, from 0 on. None exactly where the node lists no such job.
-    pub fn report_at(&self, seq: u32) -> Option<Report<'_, 'f>>
-        ensures some { seq < length (jobs self.now.state.records)
-            → result ≡ Some (report.report_at self.now seq) }
-        ensures none { length (jobs self.now.state.records) ≤ seq → result ≡ None }
-    {
-        if (seq as usize) < self.jobs().len() {
-            Some(Report::new(self, seq))
-        } else {
-            None
-        }
     }
 
     // The jobs that a child is not known to hold.

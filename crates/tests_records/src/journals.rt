@@ -1,26 +1,22 @@
-//! Nodes over their disks: what each call keeps, what a stop within it leaves, what is refused, and when a journal is full. The
+//! Nodes over their disks: what each call keeps, what a stop within it leaves, which records are damage, and when a journal is full. The
 //! expectations are worked out by hand from the rules.
 ghost use Rattle.std.specs.Prelude.{◌<◌};
 ghost use Rattle.salt_wire.specs.Limits.{Within};
 ghost use Rattle.node_core.specs.Node.{IsCounted};
 ghost use Rattle.journalled_node.specs.State.{StandsIfUp};
 
-use crate::made::{FAILED, grown, id, job_for, word};
+use crate::made::{FAILED, grown, id, job, word};
+use checkpoint_log::Log;
 use fleet_config::Fleet;
+use journal_records::write_record;
 use journalled_node::{JournalledNode, LoadFault, PublishFault, TakeFault};
 use node_core::{PublishRefusal, Stray};
-use salt_disk::{Disk, MemDisk};
+use salt_disk::{Disk, MemDisk, Part};
 use salt_value::NodeId;
-use salt_wire::{Entry, Message};
+use salt_wire::{Deed, Entry, Message};
 use std::alloc::Global;
 use std::process::Abort;
 use target_tree::{Kind, TargetFault};
-
-// The target that all minions are.
-const EVERYONE: (Kind, &str) = (Kind::Glob, "*");
-
-// The text of a target whose second leaf has a pattern that is too big.
-const TOO_BIG: &str = "m* or E@(a{1000}){1000}";
 
 /// A call on a node that was just loaded.
 #[derive(Clone, Copy, Debug)]
@@ -29,12 +25,10 @@ enum Call {
     Load,
     /// An order at the top: `test.ping` for all minions, at this moment.
     Publish(u64),
-    /// The same at moment 7 for a target by its text of this kind.
-    PublishFor(Kind, &'static str),
+    /// An order at the top whose target is no text of a target.
+    PublishNothing,
     /// The job with this number from this node, by the moment of its jid.
     Job(u32, u32, u64),
-    /// The first job from this node, for a target by its text of this kind.
-    JobFor(u32, Kind, &'static str),
     /// The entry with this number of a minion from this node: that it has started.
     Start(u32, &'static str, u32),
 }
@@ -65,11 +59,11 @@ fn start_of(rt: &impl Abort, minion: &str, n: u32) -> Message
     Message::Up { minion, n, entry }
 }
 
-fn job_of(rt: &impl Abort, alloc: Global, seq: u32, moment: u64, aim: (Kind, &str)) -> Message
+fn job_of(rt: &impl Abort, alloc: Global, seq: u32, moment: u64) -> Message
     ensures value { Within result }
     ensures counted { IsCounted result }
 {
-    let job = job_for(rt, alloc, moment, aim.0, aim.1);
+    let job = job(rt, alloc, moment);
     Message::Pub { seq, job }
 }
 
@@ -106,13 +100,13 @@ fn take_job(
     node: &mut JournalledNode,
     disk: &mut MemDisk,
     from: u32,
-    number: (u32, u64),
-    aim: (Kind, &str),
+    seq: u32,
+    moment: u64,
 ) -> Ending
     requires { StandsIfUp ⟦<MemDisk as Disk>⟧ disk.old node.old }
     ensures { StandsIfUp ⟦<MemDisk as Disk>⟧ disk.new node.new }
 {
-    let message = job_of(rt, alloc, number.0, number.1, aim);
+    let message = job_of(rt, alloc, seq, moment);
     replied(&node.take(disk, NodeId::new(from), &message))
 }
 
@@ -122,7 +116,7 @@ fn publish(
     node: &mut JournalledNode,
     disk: &mut MemDisk,
     moment: u64,
-    aim: (Kind, &str),
+    tgt: &str,
 ) -> Ending
     requires { StandsIfUp ⟦<MemDisk as Disk>⟧ disk.old node.old }
     ensures { StandsIfUp ⟦<MemDisk as Disk>⟧ disk.new node.new }
@@ -131,7 +125,7 @@ fn publish(
     if node.node().me().place() != 0 {
         return Ending::Other;
     }
-    match node.publish(disk, moment, aim.0, aim.1, &ping, &[]) {
+    match node.publish(disk, moment, Kind::Glob, tgt, &ping, &[]) {
         Ok(_) => Ending::Published,
         Err(fault) => Ending::Unpublished(fault),
     }
@@ -149,14 +143,9 @@ fn ask(
 {
     match call {
         Call::Load => Ending::Loaded,
-        Call::Publish(moment) => publish(rt, alloc, node, disk, moment, EVERYONE),
-        Call::PublishFor(kind, tgt) => publish(rt, alloc, node, disk, 7, (kind, tgt)),
-        Call::Job(from, seq, moment) => {
-            take_job(rt, alloc, node, disk, from, (seq, moment), EVERYONE)
-        }
-        Call::JobFor(from, kind, tgt) => {
-            take_job(rt, alloc, node, disk, from, (0, 7), (kind, tgt))
-        }
+        Call::Publish(moment) => publish(rt, alloc, node, disk, moment, "*"),
+        Call::PublishNothing => publish(rt, alloc, node, disk, 7, ""),
+        Call::Job(from, seq, moment) => take_job(rt, alloc, node, disk, from, seq, moment),
         Call::Start(from, minion, n) => take_start(rt, node, disk, from, minion, n),
     }
 }
@@ -398,6 +387,39 @@ fn what_a_stop_leaves_of_a_call(rt: HostRuntime) {
     }
 }
 
+// What is left of a load: how many changing calls pass, the byte that the crash picks, and how many starts the minion then has, loaded once
+// more.
+static LOADS: [(u64, u8, usize); 11] = [
+    (0, 0x01, 1),
+    (2, 0x01, 1),
+    (3, 0x01, 1),
+    (4, 0x01, 1),
+    (5, 0x00, 1),
+    (5, 0x01, 2),
+    (5, 0x07, 1),
+    (6, 0x00, 1),
+    (6, 0x01, 2),
+    (7, 0x00, 2),
+    (7, 0x01, 2),
+];
+
+fn starts(rt: &impl Abort, alloc: Global, fleet: &Fleet, load: (u64, u8, usize)) {
+    let (passes, pick, count) = load;
+    for cut in &CUTS {
+        let left = left(rt, alloc, fleet, 2, Call::Load, passes, (pick, *cut));
+        assert_eq!(rt; left, (0, count), "{passes} calls");
+    }
+}
+
+#[test]
+fn what_a_stop_leaves_of_a_load(rt: HostRuntime) {
+    let alloc = rt.alloc();
+    let fleet = grown(&rt, alloc);
+    for load in &LOADS {
+        starts(&rt, alloc, &fleet, *load);
+    }
+}
+
 /// Two calls on the node at a place, of which so many changing calls pass with its load's, and how they end.
 type Failing = (u32, u64, (Call, Call), (Ending, Ending, bool));
 
@@ -455,18 +477,14 @@ fn a_node_is_down_after_its_disk_failed(rt: HostRuntime) {
 }
 
 // The top's refusals, after which the next order is published as if they had not been.
-static REFUSED: [(Call, Ending); 4] = [
+static REFUSED: [(Call, Ending); 3] = [
     (
-        Call::PublishFor(Kind::Glob, ""),
+        Call::PublishNothing,
         Ending::Unpublished(PublishFault::Refused {
             cause: PublishRefusal::Target {
                 fault: TargetFault::Empty,
             },
         }),
-    ),
-    (
-        Call::PublishFor(Kind::Compound, TOO_BIG),
-        Ending::Unpublished(PublishFault::TooBig { leaf: 1 }),
     ),
     (
         Call::Job(1, 0, 7),
@@ -477,21 +495,6 @@ static REFUSED: [(Call, Ending); 4] = [
     (Call::Publish(7), Ending::Published),
 ];
 
-// A minion's, after which it runs the next job under the same number.
-static UNTAKEN: [(Call, Ending); 3] = [
-    (
-        Call::JobFor(1, Kind::Compound, TOO_BIG),
-        Ending::Untaken(TakeFault::TooBig { leaf: 1 }),
-    ),
-    (
-        Call::JobFor(1, Kind::Pcre, "("),
-        Ending::Untaken(TakeFault::Stray {
-            cause: Stray::BadPattern { leaf: 0 },
-        }),
-    ),
-    (Call::Job(1, 0, 7), Ending::Jobs(1)),
-];
-
 #[test]
 fn what_is_refused_leaves_no_record(rt: HostRuntime) {
     let alloc = rt.alloc();
@@ -499,12 +502,26 @@ fn what_is_refused_leaves_no_record(rt: HostRuntime) {
     let mut disk = fresh(&rt, alloc, 4096);
     does(&rt, alloc, &fleet, 0, &mut disk, &REFUSED);
     holds(&rt, alloc, &fleet, 0, &mut disk, (1, 0));
-    let mut minion = fresh(&rt, alloc, 4096);
-    does(&rt, alloc, &fleet, 2, &mut minion, &UNTAKEN);
-    holds(&rt, alloc, &fleet, 2, &mut minion, (1, 5));
 }
 
-// A record of a job for all minions has 37 bytes, so that a journal of 64 bytes has room for one.
+// A journal of 64 bytes has room for seven starts, of six bytes each behind the first seventeen.
+const LONG: Ending = Ending::Unloaded(LoadFault::Full {
+    length: 65,
+    limit: 64,
+});
+
+fn fills(rt: &impl Abort, alloc: Global, fleet: &Fleet, disk: &mut MemDisk) {
+    for count in 1..10 {
+        let wanted = if count <= 7 { Ending::Loaded } else { LONG };
+        assert_eq!(rt;
+            run(rt, alloc, fleet, 2, disk, Call::Load),
+            wanted,
+            "load {count}"
+        );
+    }
+}
+
+// A record of such a job has 37 bytes, so that there is room for one.
 static ONE_ORDER: [(Call, Ending); 2] = [
     (Call::Publish(7), Ending::Published),
     (
@@ -531,10 +548,138 @@ static ONE_JOB: [(Call, Ending); 2] = [
 fn a_full_journal(rt: HostRuntime) {
     let alloc = rt.alloc();
     let fleet = grown(&rt, alloc);
+    let mut disk = fresh(&rt, alloc, 64);
+    fills(&rt, alloc, &fleet, &mut disk);
     let mut top = fresh(&rt, alloc, 64);
     does(&rt, alloc, &fleet, 0, &mut top, &ONE_ORDER);
     holds(&rt, alloc, &fleet, 0, &mut top, (1, 0));
     let mut syndic = fresh(&rt, alloc, 64);
     does(&rt, alloc, &fleet, 1, &mut syndic, &ONE_JOB);
     holds(&rt, alloc, &fleet, 1, &mut syndic, (1, 0));
+}
+
+// Adds a payload to the log of a disk.
+fn add(rt: &impl Abort, alloc: Global, disk: &mut MemDisk, payload: &[u8]) {
+    match Log::load(alloc, disk) {
+        Ok((mut log, _content)) => log.append(alloc, disk, payload).expect(rt, FAILED),
+        Err(_) => panic!(rt; "{FAILED}"),
+    }
+}
+
+/// The payloads of a log, the place of a node, and that of the gate at which its load finds damage, if it does. A byte 6 is a start; 7, a job
+/// that a minion ran, by its number; 2, an entry of a minion at a master, here its start.
+type Damage = (&'static [&'static [u8]], u32, Option<u64>);
+
+static DAMAGE: [Damage; 16] = [
+    (&[], 2, None),
+    (&[b"\x06", b"\x06"], 2, None),
+    (
+        &[b"\x07\0\0\0\0\0\0\0\0\0", b"\x07\0\0\0\x01\0\0\0\0\0"],
+        2,
+        None,
+    ),
+    (&[b"\x06", b"\x07\0\0\0\x01\0\0\0\0\0"], 2, Some(22)),
+    (
+        &[b"\x07\0\0\0\0\0\0\0\0\0", b"\x07\0\0\0\0\0\0\0\0\0"],
+        2,
+        Some(31),
+    ),
+    (&[b""], 2, Some(16)),
+    (&[b"\x08"], 2, Some(16)),
+    (&[b"\x06\0"], 2, Some(16)),
+    (&[b"\x06", b"\x07\0\0\0\0\x02\0\0\0\0"], 2, Some(22)),
+    (&[b"\x02\x02m1\x03\0\0\0\x01"], 2, Some(16)),
+    (&[b"\x06"], 0, Some(16)),
+    (&[b"\x06"], 1, Some(16)),
+    (
+        &[b"\x02\x02m1\x03\0\0\0\x01", b"\x02\x02m3\x03\0\0\0\x01"],
+        0,
+        None,
+    ),
+    (
+        &[b"\x02\x02m1\x03\0\0\0\x01", b"\x02\x02m3\x03\0\0\0\x01"],
+        1,
+        Some(30),
+    ),
+    (
+        &[b"\x02\x02m1\x03\0\0\0\x01", b"\x02\x02sa\x03\0\0\0\x01"],
+        0,
+        Some(30),
+    ),
+    // A return of a job that the top doesn't hold.
+    (&[b"\x02\x02m1\x01\0\0\0\0\0\x01"], 0, Some(16)),
+];
+
+fn found(place: Option<u64>) -> Ending {
+    match place {
+        None => Ending::Loaded,
+        Some(at) => Ending::Unloaded(LoadFault::Damaged {
+            part: Part::Even,
+            at,
+        }),
+    }
+}
+
+fn with_payloads(rt: &impl Abort, alloc: Global, payloads: &[&'static [u8]]) -> MemDisk {
+    let mut disk = fresh(rt, alloc, 4096);
+    for payload in payloads {
+        add(rt, alloc, &mut disk, payload);
+    }
+    disk
+}
+
+fn finds(
+    rt: &impl Abort,
+    alloc: Global,
+    fleet: &Fleet,
+    me: u32,
+    disk: &mut MemDisk,
+    wanted: Ending,
+) {
+    assert_eq!(rt; run(rt, alloc, fleet, me, disk, Call::Load), wanted);
+}
+
+#[test]
+fn strange_records_are_damage(rt: HostRuntime) {
+    let alloc = rt.alloc();
+    let fleet = grown(&rt, alloc);
+    for (payloads, me, place) in &DAMAGE {
+        let mut disk = with_payloads(&rt, alloc, payloads);
+        finds(&rt, alloc, &fleet, *me, &mut disk, found(*place));
+    }
+}
+
+// The record of a publication with the jid of this moment.
+fn published(rt: &impl Abort, alloc: Global, moment: u64) -> Vec<u8> {
+    let job = job(rt, alloc, moment);
+    write_record(alloc, &Deed::Publish { job }).expect(rt, FAILED)
+}
+
+#[test]
+fn a_jid_that_does_not_rise_is_damage(rt: HostRuntime) {
+    let alloc = rt.alloc();
+    let fleet = grown(&rt, alloc);
+    let record = published(&rt, alloc, 7);
+    let mut disk = fresh(&rt, alloc, 4096);
+    add(&rt, alloc, &mut disk, record.as_slice());
+    finds(&rt, alloc, &fleet, 0, &mut disk, Ending::Loaded);
+    finds(&rt, alloc, &fleet, 1, &mut disk, found(Some(16)));
+    add(&rt, alloc, &mut disk, record.as_slice());
+    let at = 21 + record.len() as u64;
+    finds(&rt, alloc, &fleet, 0, &mut disk, found(Some(at)));
+}
+
+#[test]
+fn a_disk_without_a_journal(rt: HostRuntime) {
+    let alloc = rt.alloc();
+    let fleet = grown(&rt, alloc);
+    let mut disk = MemDisk::new(alloc);
+    finds(
+        &rt,
+        alloc,
+        &fleet,
+        0,
+        &mut disk,
+        Ending::Unloaded(LoadFault::NotAJournal),
+    );
 }

@@ -1,6 +1,5 @@
 //! What the tests make: ids, words, fleets and jobs.
-ghost use Rattle.std.specs.Prelude.{◌≤◌, length};
-ghost use Rattle.salt_wire.specs.Limits.{JobFits, TreeFits, most_target_bytes};
+ghost use Rattle.salt_wire.specs.Limits.{JobFits, TreeFits};
 
 use exec_functions::Holdings;
 use fleet_config::{Fleet, FleetNode, Role};
@@ -9,7 +8,7 @@ use salt_wire::{Job, tree_fits};
 use sqlite_items::Boxed;
 use std::alloc::Global;
 use std::process::Abort;
-use target_tree::{Groups, Kind, MOST_TEXT_BYTES, Target, read_target};
+use target_tree::{Groups, Kind, Target, read_target};
 
 /// What is said where a step that must succeed doesn't.
 pub const FAILED: &str = "memory, or a right text";
@@ -65,12 +64,12 @@ pub fn grown(rt: &impl Abort, alloc: Global) -> Fleet {
     fleet
 }
 
-// The tree of a target's text of this kind, within the limits of a job's.
-fn tree(rt: &impl Abort, alloc: Global, kind: Kind, tgt: &str) -> Boxed<Target>
+// The target `*`, within the limits of a job's.
+fn everyone(rt: &impl Abort, alloc: Global) -> Boxed<Target>
     ensures value { TreeFits result }
 {
     let groups = Groups::new(alloc);
-    let tree = read_target(alloc, kind, tgt, &groups).expect(rt, FAILED);
+    let tree = read_target(alloc, Kind::Glob, "*", &groups).expect(rt, FAILED);
     let tree = Boxed::new(alloc, tree).expect(rt, FAILED);
     if !tree_fits(tree.get()) {
         panic!(rt; "{FAILED}");
@@ -78,29 +77,20 @@ fn tree(rt: &impl Abort, alloc: Global, kind: Kind, tgt: &str) -> Boxed<Target>
     tree
 }
 
-// A job of this function, without an argument, for a target by its text and its tree.
-fn job_of(
-    rt: &impl Abort,
-    alloc: Global,
-    moment: u64,
-    kind: Kind,
-    tgt: &str,
-    target: Boxed<Target>,
-    fun: Word,
-) -> Job
-    requires short { length tgt.now ≤ most_target_bytes }
+// A job of this function for these minions, without an argument.
+fn job_of(rt: &impl Abort, alloc: Global, moment: u64, target: Boxed<Target>, fun: Word) -> Job
     requires tree { TreeFits target }
     ensures value { JobFits result }
 {
     let jid = Jid::next(None, moment).expect(rt, FAILED);
-    let tgt = Text::new(String::from_str(alloc, tgt).expect(rt, FAILED));
+    let tgt = Text::new(String::from_str(alloc, "*").expect(rt, FAILED));
     let args = Items::new(alloc);
     let _micros = jid.micros();
     let _text = tgt.as_str();
     let _word = fun.as_bytes();
     Job {
         jid,
-        kind,
+        kind: Kind::Glob,
         tgt,
         target,
         fun,
@@ -108,27 +98,15 @@ fn job_of(
     }
 }
 
-/// The job `test.ping` for a target by its text of this kind, with the jid of this moment.
-pub fn job_for(rt: &impl Abort, alloc: Global, moment: u64, kind: Kind, tgt: &str) -> Job
+/// The job `test.ping` for all minions, with the jid of this moment.
+pub fn job(rt: &impl Abort, alloc: Global, moment: u64) -> Job
     ensures value { JobFits result }
 {
-    if tgt.len() > MOST_TEXT_BYTES {
-        panic!(rt; "{FAILED}");
-    }
     job_of(
         rt,
         alloc,
         moment,
-        kind,
-        tgt,
-        tree(rt, alloc, kind, tgt),
+        everyone(rt, alloc),
         word(rt, alloc, "test.ping"),
     )
-}
-
-/// The same for all minions.
-pub fn job(rt: &impl Abort, alloc: Global, moment: u64) -> Job
-    ensures value { JobFits result }
-{
-    job_for(rt, alloc, moment, Kind::Glob, "*")
 }

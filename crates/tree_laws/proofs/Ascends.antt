@@ -6,7 +6,7 @@ use Rattle.std.specs.Cmp.{IsStrictWeakOrder}
 use Rattle.std.proofs.lemmas.Bool.{cases_lt, eqb-true, eq-eqb}
 use Rattle.std.proofs.lemmas.List.Elements.{All-contains_itself, recursion_from_All, All-append, All-nil, All-cons, All-filter, filter_passes, Contains-append_left, Contains-append_right}
 use Rattle.fleet_config.specs.Tree.{up_to}
-use Rattle.fleet_config.proofs.Orders.{part, parts, parts_next, before, before_le, before_lt, before_few, bool_true, bool_false, ordered}
+use Rattle.tree_world.proofs.Orders.{part, parts, parts_next, before, before_le, before_lt, before_few, bool_true, bool_false, ordered}
 
 -- ---- what a list has
 

@@ -18,7 +18,7 @@ use Rattle.salt_value.specs.declared.outcome.Row.{Row}
 use Rattle.minion_core.specs.Flat.{row_of, flat_up, return_of}
 use Rattle.tree_world.specs.Report.{is_before, by_id, rows, flat_report}
 use Rattle.tree_laws.specs.Laws.{flat_outcome, IsFlatRow, HasFlatRows, AscendById}
-use Rattle.fleet_config.proofs.Orders.{is_order}
+use Rattle.tree_world.proofs.Orders.{is_order}
 use Rattle.tree_laws.proofs.Ascends.{Pairs, flat_all, map_all, map_has, filter_has, up_to_has, up_to_rises, pairs_filter, ordered_ascends, ordered_has}
 use Rattle.tree_laws.proofs.Places.{place_at}
 use Rattle.tree_laws.proofs.Trees.{parent_before, within_test, minion_low, both}

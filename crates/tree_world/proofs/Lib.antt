@@ -1,3 +1,4 @@
+pub mod Orders
 mod Bodies
 mod Delivers
 mod Placed

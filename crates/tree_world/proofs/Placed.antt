@@ -12,7 +12,9 @@ use Rattle.node_core.specs.declared.faults.TakeFault.{TakeFault}
 use Rattle.node_core.specs.declared.faults.PublishFault.{PublishFault}
 use Rattle.node_core.specs.Node.{NodeState, PlacedNode, MessageResult, message_result, reply_answer, first_node, starting_node, TakesMessage, DeniesMessage, IsTakeFault}
 use Rattle.node_core.specs.Publications.{Order, PublishesOrder, DeniesOrder, Publishes, IsPublishFault}
+use Rattle.fleet_config.specs.Tree.{minions}
 use Rattle.tree_world.specs.Network.{node_at}
+use Rattle.tree_world.specs.Report.{by_id}
 use Rattle.tree_world.specs.Nodes.{FleetNodes, ArePlacedFrom, ArePlaced, AreStarted, IsWhole, TakesAt, StaysAt, PublishesAtTop, states_of}
 
 -- the state at a place
@@ -124,8 +126,10 @@ same_count nodes i n =
     length-map (set nodes i n) (λ (p : PlacedNode). p.state) ∙ length-set nodes i n ∙ sym (length-map nodes (λ (p : PlacedNode). p.state))
 
 -- a world is whole with other states of as many nodes
-pub whole_after : (old new : FleetNodes) → IsWhole old → new.fleet ≡ old.fleet → length new.states ≡ length old.states → IsWhole new
-whole_after old new h fleet count = record {
+pub whole_after : (old new : FleetNodes) (sorted : List ℕ) → IsWhole old sorted → new.fleet ≡ old.fleet → length new.states ≡ length old.states → IsWhole new sorted
+whole_after old new sorted h fleet count = record {
   some = subst (λ (f : FleetConfig). 0 < length f.tree) (sym fleet) h.some;
   count = count ∙ h.count ∙ ap (λ (f : FleetConfig). length f.tree) (sym fleet);
+  order = subst (λ (f : FleetConfig). sorted ≡ by_id f.tree (minions f.tree 0)) (sym fleet) h.order;
+  within = subst (λ (f : FleetConfig). All (λ m. m < length f.tree) sorted) (sym fleet) h.within;
 }

@@ -9,7 +9,9 @@ use Rattle.salt_wire.specs.declared.message.Message.{Message}
 use Rattle.node_core.specs.declared.faults.TakeFault.{TakeFault}
 use Rattle.node_core.specs.Node.{NodeState, PlacedNode, first_node, with_record, message_result, reply_answer, IsTakeFault}
 use Rattle.node_core.specs.Publications.{Order, publication, IsPublishFault}
+use Rattle.fleet_config.specs.Tree.{minions}
 use Rattle.tree_world.specs.Network.{node_at}
+use Rattle.tree_world.specs.Report.{by_id}
 
 -- a fleet, and the state of each of its nodes in list order
 pub record FleetNodes : Type 0 where
@@ -65,7 +67,9 @@ StaysAt to before after = after ≡ slice_set before to (node_at before to)
 abbrev pub DeniesAt : ℕ → ℕ → Message → FleetNodes → TakeFault → Type 0
 DeniesAt to from message nodes fault = IsTakeFault nodes.fleet.tree to from message (node_at nodes.states to) fault
 
--- A fleet has a node, and a state for each of its nodes. No public contract cites it.
-pub record IsWhole (nodes : FleetNodes) : Type 0 where
+-- A fleet has a node and a state for each of its nodes, and this is its minions' order by their ids. No public contract cites it.
+pub record IsWhole (nodes : FleetNodes) (sorted : List ℕ) : Type 0 where
   pub some : 0 < length nodes.fleet.tree
   pub count : length nodes.states ≡ length nodes.fleet.tree
+  pub order : sorted ≡ by_id nodes.fleet.tree (minions nodes.fleet.tree 0)
+  pub within : All (λ m. m < length nodes.fleet.tree) sorted

@@ -18,6 +18,18 @@ use Rattle.tree_world.specs.Report.{row_of}
 abbrev pub AreNodes : Tree → List ℕ → Type 0
 AreNodes t places = All (λ m. m < length t) places
 
+-- where the old places are of nodes, the new ones are
+abbrev pub KeepsNodes : Tree → List ℕ → List ℕ → Type 0
+KeepsNodes t old new = AreNodes t old → AreNodes t new
+
+-- the row of a minion, if by this node's records it returned the job, as a list
+abbrev pub row_at : FleetConfig → NodeState → ℕ → ℕ → List Row
+row_at f node seq minion = option_to_list (row_of (id_of f.tree minion) (return_of seq (log (id_of f.tree minion) node.records)))
+
+-- the rows have one more, that of a minion, if by this node's records it returned the job
+abbrev pub AddsRow : FleetConfig → NodeState → ℕ → ℕ → List Row → List Row → Type 0
+AddsRow f node seq minion before after = after ≡ before ++ row_at f node seq minion
+
 -- this text was added to what was there
 abbrev pub AddsText : List ℕ → List ℕ → List ℕ → Type 0
 AddsText text before after = after ≡ before ++ text

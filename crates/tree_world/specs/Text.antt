@@ -17,7 +17,6 @@ use Rattle.target_tree.specs.declared.fault.TargetFault.TheVariants as fault
 use Rattle.node_core.specs.declared.faults.PublishRefusal.{PublishRefusal}
 use Rattle.node_core.specs.declared.faults.PublishRefusal.TheVariants.{Target, BadPattern, TooLarge, JobsFull, JidEnd}
 use Rattle.node_core.specs.Publications.{order, publication}
-pub use Rattle.node_core.specs.Report.{number_of, function_at}
 use Rattle.node_core.specs.Records.{jobs, jobs_held, log}
 use Rattle.fleet_turns.specs.declared.turn.Turn.{Turn}
 use Rattle.fleet_turns.specs.declared.turn.Turn.TheVariants.{Publish, Send, Deliver, Settle, Report, Exit, Jobs, Summary, Data, Counts}
@@ -78,6 +77,14 @@ rows_text jid fun rows = head_text jid fun (length rows) ++ flat_map row_text ro
 -- the line of a job that the top does not have
 abbrev pub unknown_text : ℕ → List ℕ
 unknown_text jid = line (codes "unknown " ++ jid_text jid)
+
+-- the number of the job with this jid
+abbrev pub number_of : ℕ → List Job → Option ℕ
+number_of jid jobs = position (λ job. job.jid == jid) jobs
+
+-- the function of a job, and none past the end of the list
+abbrev pub function_at : List Job → ℕ → List ℕ
+function_at jobs seq = unwrap_or (option_map (λ job. job.fun) (slice_get jobs seq)) []
 
 -- the lines of the job with this number, and one line where there is none
 abbrev pub report_text : FleetConfig → Network → ℕ → Option ℕ → List ℕ

@@ -9,6 +9,7 @@
 mod nodes;
 mod packet;
 mod queries;
+mod report;
 mod settle;
 mod text;
 mod world;

@@ -4,8 +4,6 @@ ghost use Rattle.value_json.specs.Texts.{json_text};
 ghost use Rattle.salt_value.specs.declared.value.Value.TheVariants as v;
 ghost use Rattle.tree_world.specs.Steps.{AddsText, AreNodes};
 ghost use Rattle.tree_world.specs.Text as text;
-ghost use Rattle.tree_world.specs.Report as report;
-ghost use Rattle.node_core.specs.Records.{jobs};
 
 use exec_functions::Holdings;
 use fleet_config::Fleet;
@@ -56,32 +54,6 @@ fn exit_word(is_zero: bool) -> &'static [u8]
     ensures { result.now ≡ text.exit_word is_zero }
 {
     if is_zero { b"true" } else { b"false" }
-}
-
-/// How many rows the reports of all jobs of the top have.
-#[tactic(auto, using(crate::proofs::RowCounts::none_yet, crate::proofs::RowCounts::one_more))]
-pub fn row_count(top: &Node) -> u64
-    requires { top.now.me ≡ 0 }
-    ensures { result ≡ report.row_count top.now.fleet.tree top.now.state.records
-        (length (jobs top.now.state.records)) }
-{
-    let mut rows = 0;
-    for seq in 0..top.jobs().len() as u32 {
-        rows += job_row_count(top, seq) as u64;
-    }
-    rows
-}
-
-// How many rows the report of a job has.
-fn job_row_count(top: &Node, seq: u32) -> u32
-    requires top { top.now.me ≡ 0 }
-    requires within { seq < length (jobs top.now.state.records) }
-    ensures { result ≡ length (report.report top.now.fleet.tree top.now.state.records seq) }
-{
-    match top.report_at(seq) {
-        Some(report) => report.count(),
-        None => unreachable!(),
-    }
 }
 
 /// The lines of a list of jobs.

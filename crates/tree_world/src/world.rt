@@ -9,11 +9,10 @@ ghost use Rattle.salt_outside.specs.Streams.{contents_after, IsPart};
 
 use crate::nodes::Nodes;
 use crate::packet::Packet;
-use crate::queries::{
-    counts_text, data_text, exit_text, jobs_text, row_count, settled_text, summary_text,
-};
+use crate::queries::{counts_text, data_text, exit_text, jobs_text, settled_text, summary_text};
+use crate::report::{row_count, rows_of, sort_by_id};
 use crate::text::{
-    missing_text, packet_text, published_text, refused_text, rows_text, unknown_text,
+    missing_text, number_of, packet_text, published_text, refused_text, rows_text, unknown_text,
 };
 use exec_functions::Holdings;
 use fleet_config::Fleet;
@@ -35,6 +34,7 @@ pub const MOST_SENT: u64 = 4_294_967_295;
 #[derive(Drop)]
 pub struct World<'f> {
     pub(crate) alloc: Global,
+    order: Vec<NodeId>,
     pub(crate) nodes: Nodes<'f>,
     pub(crate) packets: Vec<Packet>,
 }
@@ -54,7 +54,7 @@ impl<'f> Model for World<'f> {
 
     ghost view = { λ w. record { fleet = w.nodes.fleet; network = record { nodes = w.nodes.states; packets = w.packets.items } } };
 
-    ghost invariant = { λ w. IsWhole w.nodes };
+    ghost invariant = { λ w. IsWhole w.nodes w.order.items };
 }
 
 /// Why a turn was not finished. The world is given up.
@@ -120,8 +120,11 @@ impl<'f> World<'f> {
         requires { 0 < length fleet.now.tree }
         ensures { IfOk result (λ world. world ≡ system fleet.now) }
     {
+        let mut order = fleet.minions(alloc, NodeId::TOP)?;
+        sort_by_id(fleet, &mut order)?;
         Ok(World {
             alloc,
+            order,
             nodes: Nodes::start(alloc, fleet)?,
             packets: Vec::new(alloc),
         })
@@ -221,20 +224,24 @@ impl<'f> World<'f> {
     fn report(&self, jid: Jid) -> Result<Vec<u8>, AllocError>
         ensures { IfOk result (λ v. v.items ≡ turn_text (Turn.Report jid) self.now) }
     {
-        match self.nodes.get(NodeId::TOP).report(jid) {
-            Some(report) => rows_text(self.alloc, jid, report.fun(), &report.rows(self.alloc)?),
-            None => unknown_text(self.alloc, jid),
-        }
+        let top = self.nodes.get(NodeId::TOP);
+        let Some(seq) = number_of(jid, top.jobs()) else {
+            return unknown_text(self.alloc, jid);
+        };
+        let rows = rows_of(self.alloc, self.fleet(), top, seq as u32, &self.order)?;
+        rows_text(self.alloc, jid, &top.jobs()[seq].fun, &rows)
     }
 
     // The lines of a report, each with whether its retcode is 0.
     fn exit(&self, jid: Jid) -> Result<Vec<u8>, AllocError>
         ensures { IfOk result (λ v. v.items ≡ turn_text (Turn.Exit jid) self.now) }
     {
-        match self.nodes.get(NodeId::TOP).report(jid) {
-            Some(report) => exit_text(self.alloc, jid, &report.rows(self.alloc)?),
-            None => unknown_text(self.alloc, jid),
-        }
+        let top = self.nodes.get(NodeId::TOP);
+        let Some(seq) = number_of(jid, top.jobs()) else {
+            return unknown_text(self.alloc, jid);
+        };
+        let rows = rows_of(self.alloc, self.fleet(), top, seq as u32, &self.order)?;
+        exit_text(self.alloc, jid, &rows)
     }
 
     // The lines of the list of jobs.
@@ -250,7 +257,9 @@ impl<'f> World<'f> {
         ensures { IfOk result (λ v. v.items ≡ turn_text Turn.Summary self.now) }
     {
         let top = self.nodes.get(NodeId::TOP);
-        summary_text(self.alloc, top.jobs().len(), row_count(top))
+        let jobs = top.jobs().len();
+        let rows = row_count(self.fleet(), top, jobs as u32, &self.order);
+        summary_text(self.alloc, jobs, rows)
     }
 
     // The line of what a minion holds.

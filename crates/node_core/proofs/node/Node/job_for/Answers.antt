@@ -18,7 +18,7 @@ returns-clause-next c =
     record {
       next = subst (λ (p : PlacedNode). is_next_at p (Publish c.in_ok-job.job) ≡ true) view
           (job_for_top n.fleet.now.tree n.me n.below.items n.records n.core c.in_ok-job.job
-          (λ l. (c.count-nodes.ensures.fleet l).tree) (ap (λ (p : PlacedNode). p.me) view ∙ c.requires.top) c.self.invariant.0
+          (λ l. (c.count-nodes.ensures.fleet l).tree) (ap (λ (p : PlacedNode). p.me) view ∙ c.requires.top) c.self.invariant
           (subst (λ (l : List Job). is_later l c.in_ok-job.job ≡ true) listed made.later)
           (subst (λ (l : List Job). length l < most_jobs) listed made.few));
       room = refl;

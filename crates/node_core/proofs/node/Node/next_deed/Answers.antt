@@ -10,6 +10,6 @@ entry_deed-requires c =
     let fits = rw told.is at c.requires.fits in
     record {
       right = λ next. entry_passes c.args.from told.minion told.n told.entry c.args.self.now
-          (subst (λ (p : PlacedNode). p.state.minion ≡ is_minion p.fleet.tree p.me) c.self.view_is c.self.invariant.0.role)
+          (subst (λ (p : PlacedNode). p.state.minion ≡ is_minion p.fleet.tree p.me) c.self.view_is c.self.invariant.role)
           (rw told.is at c.requires.first) (rw told.is at c.requires.counted) fits.0 fits.2 next;
     }

@@ -12,7 +12,7 @@ returns-then-is_parent-clause-counted c =
 
 pub returns-then-is_parent-2-clause-counted : goal.returns-then-is_parent-2-clause-counted
 returns-then-is_parent-2-clause-counted c =
-    let h = c.self.invariant.0 in
+    let h = c.self.invariant in
     let few = subst (λ (n : PlacedNode). (id : List ℕ) → length (log id n.state.records) < 2 ^ 32) c.self.view_is
     (λ id. subst (λ (l : List Entry). length l < 2 ^ 32) (h.logged id) (h.short id)) in
     let n = c.args.self.now in

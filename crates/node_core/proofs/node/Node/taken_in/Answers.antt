@@ -11,7 +11,7 @@ returns-in_ok-job_record-in-Minion-clause-ok c =
     let core = c.in-Minion.is in
     let made = c.in_ok-job_record-in-Minion.ensures in
     run_taken c.args.seq c.args.job.now c.args.self.now _ _ _
-    (subst (λ (p : PlacedNode). p.state.minion ≡ is_minion p.fleet.tree p.me) view c.self.invariant.0.role)
+    (subst (λ (p : PlacedNode). p.state.minion ≡ is_minion p.fleet.tree p.me) view c.self.invariant.role)
     (sym (ap (λ (p : PlacedNode). p.state.minion) view) ∙ ap is_minion_core core)
     c.requires.may c.requires.next
     (c.id-id.ensures.value ∙ ap (λ (p : PlacedNode). id_of p.fleet.tree p.me) view)

@@ -2,9 +2,9 @@ use Rattle.std.proofs.Common.{rules, ◌<◌, length}
 use Rattle.std.proofs.lemmas.List.Sorted.{All-permutation}
 use Rattle.std.proofs.lemmas.Fn.{always_returns_same}
 use Rattle.fleet_config.specs.Tree.{id_of}
-use Rattle.fleet_config.specs.Order.{is_before}
-use Rattle.fleet_config.proofs.Orders.{sorted_is, is_order}
-use Rattle.fleet_config.proofs.order.sort_by_id.Goals as goal
+use Rattle.tree_world.specs.Report.{is_before}
+use Rattle.tree_world.proofs.Orders.{sorted_is, is_order}
+use Rattle.tree_world.proofs.report.sort_by_id.Goals as goal
 
 pub returns-clause-ok : goal.returns-clause-ok
 returns-clause-ok c =
